@@ -1,0 +1,3 @@
+pub mod Divide
+pub mod Multiple
+pub mod Round

@@ -1,0 +1,9 @@
+pub mod Limits
+pub mod Places
+pub mod Task
+pub mod Sets
+pub mod Slot
+pub mod Refusals
+pub mod Answers
+pub mod Outcomes
+pub mod Cases
