@@ -1,0 +1,5 @@
+pub mod Signs
+pub mod Lags
+pub mod Symbols
+pub mod Strings
+pub mod Refusals
