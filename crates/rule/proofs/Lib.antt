@@ -3,3 +3,4 @@ pub mod Lags
 pub mod Symbols
 pub mod Strings
 pub mod Refusals
+pub mod Places

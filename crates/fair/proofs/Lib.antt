@@ -1,0 +1,4 @@
+pub mod Walk
+pub mod Exchange
+pub mod Share
+pub mod Plan
