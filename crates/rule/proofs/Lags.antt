@@ -9,13 +9,14 @@ use native.Mathlib.Omega.{arith}
 use lib.Dec.{ltb, leb}
 use lib.IntN.{ℤ, pos, negsuc, negℤ, _-ℤ_, _+ℤ_, _*ℤ_, negℤ-negℤ}
 use lib.Signed.{ltZ, leZ}
-use borrow.Author.Tests.{lt-ltb, le-ltb, le-leb, lt-leb, ltb-true, leb-true, leb-false}
+use borrow.Author.Tests.{lt-ltb, le-ltb, le-leb, lt-leb, ltb-true, leb-false, not-true}
 use Rattle.rule.specs.declared.Symbol.{Symbol}
 use Rattle.rule.specs.declared.Symbol.the-variants.{Minus, Zero, Plus}
 use Rattle.rule.specs.declared.Standing.{Standing}
 use Rattle.rule.specs.declared.Standing.the-variants.{Ahead, Punctual, Behind}
 use Rattle.rule.specs.Task.{Entry, lag, sign, standingOf, standing, fair, symbol}
 use Rattle.rule.specs.Slot.{isAhead, isBehind, isPlus, isMinus, tnegru, urgent, contending}
+use Rattle.rule.proofs.Tests.{both-true}
 use Rattle.rule.proofs.Signs.{Sign, is-minus, is-zero, is-plus, sign-of, above-minus, below-plus, at-most-zero, at-least}
 use Rattle.rule.proofs.Symbols.{symbol-by-remainder, zero-equal}
 
@@ -56,13 +57,9 @@ pub record Bounds (e p k t : ℕ) : Type 0 where
   pub over : p * k < e * t + p
   pub under : e * t < p * k + p
 
-both : (a b : Bool) → a && b ≡ true → (a ≡ true) × (b ≡ true)
-both true b h = (refl, h)
-both false b h = absurd (false≢true h)
-
 pub fair-bounds : (e p k t : ℕ) → fair t (counted e p k) ≡ true → Bounds e p k t
 fair-bounds e p k t h =
-    let b = both (ltb (p * k) (e * t + p)) (ltb (e * t) (p * k + p)) (sym (fair-tests e p k t) ∙ h) in
+    let b = both-true (ltb (p * k) (e * t + p)) (ltb (e * t) (p * k + p)) (sym (fair-tests e p k t) ∙ h) in
     record { over = ltb-true (p * k) (e * t + p) (b .0); under = ltb-true (e * t) (p * k + p) (b .1) }
 
 pub bounds-fair : (e p k t : ℕ) → Bounds e p k t → fair t (counted e p k) ≡ true
@@ -149,12 +146,8 @@ module _ (e p k t : ℕ) (some : 0 < e) (light : e < p) (b : Bounds e p k t) whe
 
   pub contending-bounds : contending t (counted e p k) ≡ true → (p * k < e * suc t) × (e * suc t < p * suc k)
   contending-bounds h =
-      let c = both (not (leb (e * suc t) (p * k))) (not (leb (p * suc k) (e * suc t))) (sym contending-iff-next-lag ∙ h) in
-      (leb-false (e * suc t) (p * k) (turned _ (c .0)), leb-false (p * suc k) (e * suc t) (turned _ (c .1)))
-    where
-      turned : (a : Bool) → not a ≡ true → a ≡ false
-      turned true q = sym q
-      turned false q = refl
+      let c = both-true (not (leb (e * suc t) (p * k))) (not (leb (p * suc k) (e * suc t))) (sym contending-iff-next-lag ∙ h) in
+      (leb-false (e * suc t) (p * k) (not-true _ (c .0)), leb-false (p * suc k) (e * suc t) (not-true _ (c .1)))
 
   -- The remainder of a contender at t+1 is its next lag.
   pub contender-remainder : contending t (counted e p k) ≡ true → e * suc t % p ≡ e * suc t - p * k

@@ -1,6 +1,9 @@
+pub mod Tests
 pub mod Signs
 pub mod Lags
 pub mod Symbols
 pub mod Strings
+pub mod Ordering
 pub mod Refusals
 pub mod Places
+pub mod Choice

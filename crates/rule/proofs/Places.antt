@@ -67,11 +67,11 @@ sum-bump (suc n) f g z l e h =
 
 -- ---- counts
 
-bit-le : (a b : Bool) → (a ≡ true → b ≡ true) → bit a ≤ bit b
+pub bit-le : (a b : Bool) → (a ≡ true → b ≡ true) → bit a ≤ bit b
 bit-le true b h = rw (h refl) (omega arith)
 bit-le false b h = omega arith
 
-bit-or : (a b : Bool) → (a ≡ true → b ≡ false) → bit (a || b) ≡ bit a + bit b
+pub bit-or : (a b : Bool) → (a ≡ true → b ≡ false) → bit (a || b) ≡ bit a + bit b
 bit-or true b h = rw (h refl)
 bit-or false b h = omega arith
 

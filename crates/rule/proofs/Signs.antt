@@ -10,10 +10,11 @@ use native.Mathlib.Omega.{arith}
 use lib.Dec.{ltb, leb}
 use lib.IntN.{ℤ, pos, negsuc, negℤ, subℕ, _-ℤ_}
 use lib.Signed.{ltZ, leZ}
-use borrow.Author.Tests.{lt-ltb, le-ltb, le-leb, lt-leb, ltb-true, ltb-false, leb-true, leb-false}
+use borrow.Author.Tests.{lt-ltb, le-ltb, le-leb, lt-leb}
 use Rattle.rule.specs.declared.Symbol.{Symbol}
 use Rattle.rule.specs.declared.Symbol.the-variants.{Minus, Zero, Plus}
 use Rattle.rule.specs.Task.{sign}
+use Rattle.rule.proofs.Tests.{ltb-ext}
 
 -- ---- the difference, where the first is below the second, and where it is not
 
@@ -46,15 +47,6 @@ sign-of a b = go (decLt a b)
     go (yes l) = rw (difference-below a b l) (is-minus l)
     go (no n) = rw (difference-above a b (omega arith)) (above (a - b) refl (omega arith))
 
--- ---- tests that agree
-
-pub ltb-same : (a b a′ b′ : ℕ) → (a < b → a′ < b′) → (b ≤ a → b′ ≤ a′) → ltb a b ≡ ltb a′ b′
-ltb-same a b a′ b′ f g = go (decLt a b)
-  where
-    go : Dec (a < b) → ltb a b ≡ ltb a′ b′
-    go (yes l) = lt-ltb a b l ∙ sym (lt-ltb a′ b′ (f l))
-    go (no n) = let h : b ≤ a = omega arith in le-ltb a b h ∙ sym (le-ltb a′ b′ (g h))
-
 -- ---- a difference against a bound: strictly above -p, strictly below p, at most 0, at least p
 
 module _ (a b p : ℕ) where
@@ -63,9 +55,9 @@ module _ (a b p : ℕ) where
     where
       go : (p : ℕ) → Dec (a < b) → ltZ (negℤ (pos p)) (pos a -ℤ pos b) ≡ ltb b (a + p)
       go zero (yes l) = rw (difference-below a b l) (sym (le-ltb b (a + 0) (omega arith)))
-      go zero (no n) = rw (difference-above a b (omega arith)) (ltb-same 0 (a - b) b (a + 0) (λ h. omega arith) (λ h. omega arith))
+      go zero (no n) = rw (difference-above a b (omega arith)) (ltb-ext 0 (a - b) b (a + 0) (λ h. omega arith) (λ h. omega arith))
       go (suc p) (yes l) =
-          rw (difference-below a b l) (ltb-same (b - suc a) p b (a + suc p) (λ h. omega arith) (λ h. omega arith))
+          rw (difference-below a b l) (ltb-ext (b - suc a) p b (a + suc p) (λ h. omega arith) (λ h. omega arith))
       go (suc p) (no n) = rw (difference-above a b (omega arith)) (sym (lt-ltb b (a + suc p) (omega arith)))
 
   pub below-plus : ltZ (pos a -ℤ pos b) (pos p) ≡ ltb a (b + p)
@@ -73,7 +65,7 @@ module _ (a b p : ℕ) where
     where
       go : Dec (a < b) → ltZ (pos a -ℤ pos b) (pos p) ≡ ltb a (b + p)
       go (yes l) = rw (difference-below a b l) (sym (lt-ltb a (b + p) (omega arith)))
-      go (no n) = rw (difference-above a b (omega arith)) (ltb-same (a - b) p a (b + p) (λ h. omega arith) (λ h. omega arith))
+      go (no n) = rw (difference-above a b (omega arith)) (ltb-ext (a - b) p a (b + p) (λ h. omega arith) (λ h. omega arith))
 
 pub at-most-zero : (a b : ℕ) → leZ (pos a -ℤ pos b) (pos 0) ≡ leb a b
 at-most-zero a b = go (decLt a b)

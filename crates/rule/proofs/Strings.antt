@@ -14,6 +14,7 @@ use Rattle.rule.specs.declared.Order.{Order}
 use Rattle.rule.specs.declared.Order.the-variants.{First, Second, Tie}
 use Rattle.rule.specs.Task.{symbol, goOn, symbolsFrom, string, higher, orLater, compareStrings, compare}
 use Rattle.rule.proofs.Symbols.{zero≢minus, zero≢plus, zero-before-multiple}
+use Rattle.rule.proofs.Ordering.{higher-self}
 
 -- ---- strings end
 
@@ -77,12 +78,6 @@ first≢tie e = let z : _≡_ {A = ℕ} 0 1 = cc in omega arith
 
 second≢tie : Second ≢ Tie
 second≢tie e = let z : _≡_ {A = ℕ} 0 1 = cc in omega arith
-
-higher-self : (s : Symbol) → higher s s ≡ Tie
-unfolding higher
-higher-self Minus = refl
-higher-self Zero = refl
-higher-self Plus = refl
 
 tie-here : {x y : Symbol} → x ≡ y → higher x y ≡ Tie
 tie-here {x} q = ap (λ z. higher x z) (sym q) ∙ higher-self x
