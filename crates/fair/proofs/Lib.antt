@@ -2,3 +2,10 @@ pub mod Walk
 pub mod Exchange
 pub mod Share
 pub mod Plan
+pub mod Fields
+pub mod Dealt
+pub mod NeverStuck
+pub mod RefusalSix
+pub mod OneChoice
+pub mod RunIsSlots
+pub mod Instances

@@ -1,11 +1,11 @@
 -- A task's share of the slots up to u, e·u/p rounded down and rounded up, counted in grains of which a slot has g: what the
 -- walk asks of such bounds follows from what a symbol says of the remainder. Assumes nothing.
-use mathlib.Core.Path.{_≡_, ap}
+use mathlib.Core.Path.{_≡_, ap, _∙_}
 use mathlib.Core.Logic.{_≢_}
 use Prim.Native.Nat.{ℕ, zero, suc, _+_, _-_, _*_, _/_, _%_, _≤_, _<_}
-use native.Mathlib.Nat.{mul-le-mul-right, le-of-mul-le-mul-left}
+use native.Mathlib.Nat.{mul-le-mul-right, le-of-mul-le-mul-left, mul-left-comm, mul-div-cancel-left, dvd-mul-right}
 use native.Mathlib.Omega.{arith}
-use Rattle.number.proofs.Quotient.{le-of-products, down-and-remainder, down-greatest, up-least, up-le-suc-down, up-le-next}
+use Rattle.number.proofs.Quotient.{le-of-products, down-and-remainder, down-greatest, up-least, up-le-suc-down, up-le-next, round-up-exact}
 use Rattle.rule.specs.Task.{symbol}
 use Rattle.rule.proofs.Symbols.{symbol-by-remainder, minus-below, plus-above, not-minus-above, not-plus-below}
 use Rattle.fair.specs.Share.{shareDown, shareUp}
@@ -77,3 +77,11 @@ module _ (e p : ℕ) (some : 0 < p) where
 
       at-most : w ≤ g
       at-most = let h : e ≤ p = omega arith in times w g (omega (arith, mul-le-mul-right g h))
+
+-- At the end of a period the share is whole: e·j.
+pub share-whole : (e p j : ℕ) → 0 < p → (shareDown e p (p * j) ≡ e * j) × (shareUp e p (p * j) ≡ e * j)
+unfolding shareDown shareUp
+share-whole e p j some =
+    let q = mul-left-comm e p j in
+    let d : e * (p * j) / p ≡ e * j = ap (λ x. x / p) q ∙ mul-div-cancel-left (e * j) some in
+    (d, round-up-exact (e * (p * j)) p some (rw q (dvd-mul-right p (e * j))) ∙ d)

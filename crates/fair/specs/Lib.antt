@@ -1,1 +1,4 @@
 pub mod Share
+pub mod FromStart
+pub mod Table
+pub mod Slots

@@ -7,3 +7,4 @@ pub mod Ordering
 pub mod Refusals
 pub mod Places
 pub mod Choice
+pub mod Sets

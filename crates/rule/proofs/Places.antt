@@ -4,7 +4,7 @@ use mathlib.Core.Path.{_≡_, refl, sym, ap, _∙_, subst}
 use mathlib.Core.Logic.{_⊎_, inl, inr, _≢_}
 use mathlib.Core.Bool.{Bool, true, false, cond, _||_}
 use Prim.Native.Nat.{ℕ, zero, suc, _+_, _*_, _≤_, _<_}
-use native.Mathlib.Nat.{eq-or-lt-of-le, le-of-suc-le-suc}
+use native.Mathlib.Nat.{add-suc, add-zero, eq-or-lt-of-le, le-of-suc-le-suc, mul-zero}
 use native.Mathlib.Omega.{arith}
 use lib.ListN.{length}
 use Rattle.rule.specs.Places.{at, bit, sum, count, lowest, each}
@@ -54,6 +54,23 @@ pub sum-mul : (n : ℕ) (f : ℕ → ℕ) (c : ℕ) → sum n (λ i. f i * c) �
 unfolding sum
 sum-mul zero f c = omega arith
 sum-mul (suc n) f c = omega (arith, sum-mul n f c)
+
+pub sum-const : (n c : ℕ) → sum n (λ i. c) ≡ n * c
+unfolding sum
+sum-const zero c = omega arith
+sum-const (suc n) c = omega (arith, sum-const n c)
+
+-- the first a places, and then b more
+pub sum-append : (a b : ℕ) (f : ℕ → ℕ) → sum (a + b) f ≡ sum a f + sum b (λ i. f (a + i))
+unfolding sum
+sum-append a zero f = rw add-zero (omega arith)
+sum-append a (suc b) f = rw add-suc (omega (arith, sum-append a b f))
+
+-- a table's sum by rows is its sum by columns
+pub sum-swap : (a b : ℕ) (f : ℕ → ℕ → ℕ) → sum a (λ i. sum b (λ j. f i j)) ≡ sum b (λ j. sum a (λ i. f i j))
+unfolding sum
+sum-swap zero b f = sym (sum-const b 0 ∙ mul-zero b)
+sum-swap (suc a) b f = ap (λ x. x + sum b (f a)) (sum-swap a b f) ∙ sym (sum-add b (λ j. sum a (λ i. f i j)) (f a))
 
 -- the same but at z, where g has one more
 pub sum-bump : (n : ℕ) (f g : ℕ → ℕ) (z : ℕ) → z < n → g z ≡ suc (f z) → ((i : ℕ) → i < n → i ≢ z → g i ≡ f i)

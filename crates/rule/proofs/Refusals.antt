@@ -2,17 +2,19 @@
 -- whose earlier ones do not. Assumes nothing.
 use mathlib.Core.Path.{_≡_, refl, sym, ap, _∙_, subst}
 use mathlib.Core.Logic.{_↔_}
-use mathlib.Core.Bool.{Bool, true, false, cond}
+use mathlib.Core.Bool.{Bool, true, false, cond, not, _||_, true≢false}
 use mathlib.Core.List.{List, [], _∷_, _++_, map}
 use Prim.Native.Nat.{ℕ}
 use native.Mathlib.Omega.{arith}
+use borrow.Author.Tests.{eqb-true}
+use lib.Dec.{eqb}
 use Rattle.rule.specs.declared.Refusal.{Refusal}
 use Rattle.rule.specs.declared.Admission.the-variants.{Refused as notAdmitted}
 use Rattle.rule.specs.declared.Comparison.the-variants.{Refused as notCompared}
 use Rattle.rule.specs.declared.Outcome.the-variants.{Done, Refused}
 use Rattle.rule.specs.Answers.{numberOf}
 use Rattle.rule.specs.Task.{compare}
-use Rattle.rule.specs.Refusals.{Check, Verdict, passed, refused, first, setChecks, admissionChecks, slotChecks, listingChecks, runChecks, comparisonChecks}
+use Rattle.rule.specs.Refusals.{Check, Verdict, passed, refused, first, differ, setChecks, admissionChecks, slotChecks, listingChecks, runChecks, comparisonChecks}
 use Rattle.rule.specs.Outcomes.{admissionBy, admission, comparisonBy, comparison, slotBy, slot, listingBy, listing}
 
 -- The refusal r is given: its check holds, and none before it does.
@@ -69,6 +71,17 @@ first-append (c ∷ cs) ds q = go (first-none (c ∷ cs) q) (first-append cs ds)
   where
     go : NoneHolds (c ∷ cs) → (first cs ≡ passed → first (cs ++ ds) ≡ first ds) → cond (c .holds) (refused (c .gives)) (first (cs ++ ds)) ≡ first ds
     go (and h n) ih = rw h (ih (none-first n))
+
+-- ---- refusal 1
+
+-- Where no length differs, each is n.
+pub same-length : (n l : ℕ) (ls : List ℕ) → differ n (l ∷ ls) ≡ false → (l ≡ n) × (differ n ls ≡ false)
+unfolding differ
+same-length n l ls h = go (eqb l n) refl h
+  where
+    go : (b : Bool) → eqb l n ≡ b → (not b || differ n ls) ≡ false → (l ≡ n) × (differ n ls ≡ false)
+    go true q h = (eqb-true l n q, h)
+    go false q h = absurd (true≢false h)
 
 -- ---- the entries
 
