@@ -15,7 +15,7 @@ use Rattle.rule.specs.declared.Admission.{Admission}
 use Rattle.rule.specs.declared.Admission.the-variants.{Accepted as accepted, Refused as notAdmitted}
 use Rattle.rule.specs.declared.Refusal.the-variants.{Load}
 use Rattle.rule.specs.declared.Outcome.the-variants.{Done}
-use Rattle.rule.specs.Limits.{valid, timeMost}
+use Rattle.rule.specs.Limits.{boundedBy, timeMost}
 use Rattle.rule.specs.Places.{sum, lowest}
 use Rattle.rule.specs.Sets.{multiple, load, unitsInUse, room, spare, field}
 use Rattle.rule.specs.Slot.{chosen}
@@ -45,7 +45,7 @@ admissions : (admission paperEs paperPs 3 ≡ accepted (set 3 924 (Task 335 462)
     × (admission (1 ∷ 1 ∷ []) (2 ∷ 2 ∷ []) 1 ≡ accepted (set 1 2 Nobody))
     × (admission (1 ∷ []) (2 ∷ []) 1 ≡ accepted (set 1 2 (Task 1 2)))
     × (admission (2 ∷ 2 ∷ []) (3 ∷ 3 ∷ []) 1 ≡ notAdmitted (Load (load (2 ∷ 2 ∷ []) (3 ∷ 3 ∷ []) - 1 * multiple (3 ∷ 3 ∷ []))))
-unfolding admission admissionBy acceptance first differ invalidPlace setChecks admissionChecks multiple load unitsInUse room spare valid sum lowest euclid gcd lowestTerms lcm lcmAll roundUp
+unfolding admission admissionBy acceptance first differ invalidPlace setChecks admissionChecks multiple load unitsInUse room spare boundedBy sum lowest euclid gcd lowestTerms lcm lcmAll roundUp
 admissions = (refl, refl, refl, refl)
 
 -- The paper's set is fair at every time, and none of its slots is refused.
@@ -64,7 +64,7 @@ one-task-fair = never-stuck (1 ∷ []) (2 ∷ []) 1 (set 1 2 (Task 1 2)) (admiss
 
 -- No table serves 2/3 and 2/3 on one unit.
 five-passed : PassesOneToFive (2 ∷ 2 ∷ []) (3 ∷ 3 ∷ []) 1
-unfolding admissionChecks setChecks differ invalidPlace lowest valid multiple lcmAll lcm gcd euclid
+unfolding admissionChecks setChecks differ invalidPlace lowest boundedBy multiple lcmAll lcm gcd euclid
 five-passed = and refl (and refl (and refl (and refl (and refl none))))
 
 pub no-table : (runs : ℕ → ℕ → Bool) → Table (2 ∷ 2 ∷ []) (3 ∷ 3 ∷ []) 1 runs → ⊥

@@ -1,4 +1,5 @@
 pub mod Tests
+pub mod Limits
 pub mod Signs
 pub mod Lags
 pub mod Symbols

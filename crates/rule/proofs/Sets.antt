@@ -3,7 +3,7 @@
 use mathlib.Core.Bool.{Bool, true, false, cond, not, and-eq-true-iff}
 use mathlib.Core.List.{List}
 use mathlib.Core.Path.{_≡_, refl, ap}
-use Prim.Native.Nat.{ℕ, zero, suc, _+_, _-_, _*_, _/_, _≤_, _<_, _∣_}
+use Prim.Native.Nat.{ℕ, _+_, _-_, _*_, _/_, _≤_, _<_, _∣_}
 use native.Mathlib.Nat.{div-mul-cancel, dvd-mul-left-of-dvd, lt-of-mul-lt-mul-right, mul-comm, mul-lt-mul-of-pos-right, mul-pos, zero-mul}
 use native.Mathlib.Omega.{arith}
 use borrow.Author.Tests.{leb-true, ltb-true, ltb-false, not-false}
@@ -16,26 +16,12 @@ use Rattle.number.proofs.Quotient.{le-of-products, round-up-least}
 use Rattle.rule.specs.declared.Spare.{Spare}
 use Rattle.rule.specs.declared.Spare.the-variants.{Nobody, Task}
 use Rattle.rule.specs.Limits.{within, valid, tasksMost, unitsMost, periodMost, multipleMost}
-use Rattle.rule.specs.Places.{at, sum}
+use Rattle.rule.specs.Places.{at}
 use Rattle.rule.specs.Sets.{multiple, load, unitsInUse, room, spare}
-use Rattle.rule.specs.Refusals.{passed, first, units, invalidPlace, setChecks}
-use Rattle.rule.proofs.Places.{sum-le, sum-lt, lowest-le, lowest-first, lowest-found, lowest-none}
+use Rattle.rule.specs.Refusals.{passed, first, invalidPlace, setChecks}
+use Rattle.rule.proofs.Places.{sum-lt, lowest-le, lowest-first, lowest-found, lowest-none}
+use Rattle.rule.proofs.Limits.{within-numbers, bounded-numbers}
 use Rattle.rule.proofs.Refusals.{NoneHolds, none, and, first-none}
-
--- ---- the limits as numbers
-
-pub within-numbers : (least most x : ℕ) → within least most x ≡ true → (least ≤ x) × (x ≤ most)
-within-numbers least most x h =
-    let both = and-eq-true-iff (leb least x) (leb x most) .0 h in
-    (leb-true least x (both .0), leb-true x most (both .1))
-
-pub valid-numbers : (e p : ℕ) → valid e p ≡ true → (0 < e) × (e < p) × (p ≤ periodMost)
-unfolding valid
-valid-numbers e p h =
-    let both = and-eq-true-iff (within 2 periodMost p) (within 1 (p - 1) e) .0 h in
-    let period = within-numbers 2 periodMost p (both .0) in
-    let requirement = within-numbers 1 (p - 1) e (both .1) in
-    (omega arith, omega arith, omega arith)
 
 -- ---- a set whose records are within their limits
 
@@ -76,14 +62,9 @@ valid-set es ps same some few all =
           (lowest-first (length es) (λ i. not (valid (at es i) (at ps i))) i (omega arith));
     }
 
-sum-const : (n c : ℕ) → sum n (λ i. c) ≡ n * c
-unfolding sum
-sum-const zero c = omega arith
-sum-const (suc n) c = omega (arith, sum-const n c)
-
 module _ (es ps : List ℕ) (set : ValidSet es ps) where
   pub record-numbers : (i : ℕ) → i < length es → (0 < at es i) × (at es i < at ps i) × (at ps i ≤ periodMost)
-  record-numbers i h = valid-numbers (at es i) (at ps i) (set .record-valid i h)
+  record-numbers i h = bounded-numbers periodMost (at es i) (at ps i) (set .record-valid i h)
 
   pub period-pos : (i : ℕ) → i < length es → 0 < at ps i
   period-pos i h = omega (arith, record-numbers i h)
@@ -113,20 +94,9 @@ module _ (es ps : List ℕ) (set : ValidSet es ps) where
   pub load-pos : 0 < load es ps
   unfolding load
   load-pos =
-      let more =
-      sum-lt (length es) (λ i. 0) (λ i. at es i * multiple ps / at ps i) (λ i h. omega arith) 0 (set .tasks-pos)
-      (share-pos 0 (set .tasks-pos))
-      in
-      omega arith
-
-  pub load-le-tasks : load es ps ≤ length es * multiple ps
-  unfolding load
-  load-le-tasks =
-      let shares =
-      sum-le (length es) (λ i. at es i * multiple ps / at ps i) (λ i. multiple ps)
-      (λ i h. omega (arith, share-lt i h))
-      in
-      omega (arith, sum-const (length es) (multiple ps))
+      let share : ℕ → ℕ = λ i. at es i * multiple ps / at ps i in
+      let some = share-pos 0 (set .tasks-pos) in
+      omega (arith, sum-lt (length es) (λ i. 0) share (λ i h. omega arith) 0 (set .tasks-pos) some)
 
   pub load-le-in-use : load es ps ≤ unitsInUse es ps * multiple ps
   unfolding unitsInUse

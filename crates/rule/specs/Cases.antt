@@ -13,7 +13,7 @@ use Rattle.rule.specs.declared.Admission.the-variants.{Accepted as accep
 use Rattle.rule.specs.declared.Comparison.{Comparison}
 use Rattle.rule.specs.declared.Comparison.the-variants.{Answer}
 use Rattle.rule.specs.declared.Outcome.the-variants.{Done, Refused}
-use Rattle.rule.specs.Limits.{valid}
+use Rattle.rule.specs.Limits.{boundedBy}
 use Rattle.rule.specs.Places.{sum, lowest, each, bit}
 use Rattle.rule.specs.Task.{lag, sign, standingOf, standing, fair, symbol, goOn, symbolsFrom, string, higher, orLater, compareStrings, compare}
 use Rattle.rule.specs.Sets.{multiple, load, unitsInUse, room, spare, taskAt, spareEntry, fieldWith, field}
@@ -109,5 +109,5 @@ table =
 
 -- Every row's question has the reply that the row gives.
 pub cases-right : map (λ r. defined (r .question)) table ≡ map (λ r. r .reply) table
-unfolding table defined admission admissionBy acceptance comparison comparisonBy slot slotBy runsAt countsAfter bytesAfter run runBy slotsFrom afterSlot first differ invalidPlace unfairAt unfairPlace setChecks admissionChecks slotChecks runChecks comparisonChecks tnegru urgent contending urgents notTnegrus precedes contendersBefore chosen multiple load unitsInUse room spare taskAt spareEntry fieldWith field lag sign standingOf standing fair symbol goOn symbolsFrom string higher orLater compareStrings compare valid sum lowest each euclid gcd lowestTerms lcm lcmAll roundUp
+unfolding table defined admission admissionBy acceptance comparison comparisonBy slot slotBy runsAt countsAfter bytesAfter run runBy slotsFrom afterSlot first differ invalidPlace unfairAt unfairPlace setChecks admissionChecks slotChecks runChecks comparisonChecks tnegru urgent contending urgents notTnegrus precedes contendersBefore chosen multiple load unitsInUse room spare taskAt spareEntry fieldWith field lag sign standingOf standing fair symbol goOn symbolsFrom string higher orLater compareStrings compare boundedBy sum lowest each euclid gcd lowestTerms lcm lcmAll roundUp
 cases-right = refl

@@ -31,6 +31,10 @@ slotsMost = 1024
 abbrev pub within : ℕ → ℕ → ℕ → Bool
 within least most x = leb least x && leb x most
 
+-- Is the period from 2 to `most`, and the requirement from 1 to p - 1?
+unfoldable pub boundedBy : (most : ℕ) → ℕ → ℕ → Bool
+boundedBy most e p = within 2 most p && within 1 (p - 1) e
+
 -- A record within its limits: "period p: 2 to 65,535", "requirement e: 1 to p - 1".
-unfoldable pub valid : ℕ → ℕ → Bool
-valid e p = within 2 periodMost p && within 1 (p - 1) e
+abbrev pub valid : ℕ → ℕ → Bool
+valid e p = boundedBy periodMost e p

@@ -2,6 +2,20 @@
 // is set out in specs/Answers.antt.
 ghost use mathlib.Core.Path.{_≡_};
 ghost use Rattle.rule.specs.Answers.{numberOf};
+ghost use Rattle.rule.specs.Limits.{boundedBy, valid};
+
+// The limits of document 01.
+pub const TASKS_MOST: usize = 64;
+
+pub const UNITS_MOST: u32 = 32;
+
+pub const PERIOD_MOST: u32 = 65535;
+
+pub const MULTIPLE_MOST: u32 = 1048576;
+
+pub const TIME_MOST: u32 = 16777215;
+
+pub const SLOTS_MOST: u32 = 1024;
 
 // A symbol of a string: the sign of a difference, written -, 0 or +.
 pub enum Symbol {
@@ -101,4 +115,24 @@ pub fn number_of(r: Refusal) -> u32
         Refusal::Stuck => 9,
         Refusal::Slots => 10,
     }
+}
+
+// Is the period from 2 to `most`, and the requirement from 1 to p - 1?
+pub fn bounded(most: u32, e: u32, p: u32) -> bool
+    ensures { λ r. ⌜ r ≡ boundedBy most e p ⌝ }
+{
+    if p < 2 {
+        return false;
+    }
+    if p > most {
+        return false;
+    }
+    1 <= e && e <= p - 1
+}
+
+// Is a record within its limits?
+pub fn within_limits(e: u32, p: u32) -> bool
+    ensures { λ r. ⌜ r ≡ valid e p ⌝ }
+{
+    bounded(PERIOD_MOST, e, p)
 }
