@@ -9,3 +9,4 @@ pub mod Refusals
 pub mod Places
 pub mod Choice
 pub mod Sets
+pub mod Fields
