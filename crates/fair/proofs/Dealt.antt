@@ -25,7 +25,8 @@ use Rattle.rule.proofs.Ordering.{precedes-asymmetric}
 use Rattle.rule.proofs.Choice.{IsChoice, chosen-is-choice}
 use Rattle.rule.proofs.Sets.{AcceptedSet}
 use Rattle.fair.proofs.Plan.{Tasks, Urgent, Tnegru, Contending, Follows, Plan, lag-bounds, count-sum, few-urgent, enough-others, plan-after}
-use Rattle.fair.proofs.Fields.{size, requirementAt, periodAt, weightAt, countAt, field-size, field-entry, count-task, count-spare, at-places, sum-places, fills}
+use Rattle.rule.proofs.Placed.{size, requirementAt, periodAt, countAt, field-size, field-entry, count-task, count-spare, at-places, sum-places}
+use Rattle.fair.proofs.Fields.{weightAt, fills}
 
 bit-one : (b : Bool) → bit b ≤ 1
 bit-one true = omega arith

@@ -35,7 +35,8 @@ use Rattle.fair.specs.Share.{shareDown, shareUp}
 use Rattle.fair.specs.FromStart.{zeros, countsAt, stepped}
 use Rattle.fair.proofs.Share.{share-whole}
 use Rattle.fair.proofs.Plan.{Plan, plan-at-0, down-or-up}
-use Rattle.fair.proofs.Fields.{size, requirementAt, periodAt, weightAt, countAt, field-size, requirement-task, period-task, count-task, count-spare, at-places, sum-places, task-place, no-spare-past, count-tasks, fills}
+use Rattle.rule.proofs.Placed.{size, requirementAt, periodAt, countAt, field-size, requirement-task, period-task, count-task, count-spare, at-places, sum-places, task-place, no-spare-past, count-tasks}
+use Rattle.fair.proofs.Fields.{weightAt, fills}
 use Rattle.fair.proofs.Dealt.{counts-whole, counts-fit, place, entry, all-fair, urgents-fit, others-enough, is-choice, length-after, plan-next}
 
 -- What is promised of a set at time t with the counts ks.

@@ -20,7 +20,7 @@ use Rattle.rule.proofs.Tests.{neither-true}
 use Rattle.rule.proofs.Places.{each-ext}
 use Rattle.rule.proofs.Refusals.{NoneHolds, none, and, first-none}
 use Rattle.rule.proofs.Choice.{IsChoice, chosen-is-choice, one-choice}
-use Rattle.fair.proofs.Fields.{task-place, field-size}
+use Rattle.rule.proofs.Placed.{task-place, field-size}
 
 -- ---- a slot that was done
 

@@ -21,7 +21,8 @@ use Rattle.rule.specs.Limits.{tasksMost, within}
 use Rattle.rule.specs.Outcomes.{admissionBy, admission, runsAt, countsAfter}
 use Rattle.rule.proofs.Places.{sum-ext, sum-le, sum-append, sum-swap, sum-const, at-each}
 use Rattle.rule.proofs.Refusals.{NoneHolds, none, and, none-first, first-append, same-length}
-use Rattle.rule.proofs.Sets.{AcceptedSet, accepted-set, ValidSet, valid-set, within-numbers, invalid-place-le, period-divides}
+use Rattle.rule.proofs.Sets.{AcceptedSet, accepted-set, ValidSet, valid-set, invalid-place-le, period-divides}
+use Rattle.rule.proofs.Limits.{within-numbers}
 use Rattle.fair.specs.FromStart.{countsAt}
 use Rattle.fair.specs.Table.{Table}
 use Rattle.fair.proofs.NeverStuck.{fair-always}

@@ -7,6 +7,8 @@ pub mod Strings
 pub mod Ordering
 pub mod Refusals
 pub mod Places
+pub mod Written
 pub mod Choice
 pub mod Sets
+pub mod Placed
 pub mod Fields
