@@ -11,7 +11,8 @@ use Rattle.rule.specs.declared.Spare.the-variants.{Nobody, Task}
 use Rattle.rule.specs.Places.{at, sum}
 use Rattle.rule.specs.Sets.{multiple, load, unitsInUse, room, spare}
 use Rattle.rule.proofs.Places.{sum-ext}
-use Rattle.rule.proofs.Placed.{placed, placed-task, placed-spare, size, requirementAt, periodAt, requirement-task, period-task, requirement-spare, period-spare, at-places, sum-places}
+use Rattle.rule.specs.Layout.{placed}
+use Rattle.rule.proofs.Placed.{placed-task, placed-spare, size, requirementAt, periodAt, requirement-task, period-task, requirement-spare, period-spare, at-places, sum-places}
 use Rattle.rule.proofs.Sets.{AcceptedSet, SpareTask}
 use Rattle.fair.proofs.Plan.{Tasks}
 

@@ -8,17 +8,15 @@ use native.Mathlib.Nat.{eq-or-lt-of-le, le-of-suc-le-suc}
 use native.Mathlib.Omega.{arith}
 use borrow.Author.Tests.{lt-ltb, le-ltb}
 use lib.Dec.{ltb}
+use lib.IntN.{ℤ, pos, _-ℤ_}
 use lib.ListN.{length}
 use Rattle.rule.specs.declared.Spare.{Spare}
 use Rattle.rule.specs.declared.Spare.the-variants.{Nobody, Task}
 use Rattle.rule.specs.Places.{at, bit, sum, count}
 use Rattle.rule.specs.Sets.{unitsInUse, spare, taskAt, spareEntry, fieldWith, field}
+use Rattle.rule.specs.Layout.{placed, requirementOf, periodOf, placesOf}
 use Rattle.rule.proofs.Lags.{counted}
 use Rattle.rule.proofs.Signs.{difference-above}
-
--- What place i of a field has: the task's own below n, the spare's at n.
-unfoldable pub placed : (n : ℕ) → (ℕ → ℕ) → ℕ → ℕ → ℕ
-placed n task spares i = cond (ltb i n) (task i) spares
 
 pub placed-task : (n : ℕ) (task : ℕ → ℕ) (spares i : ℕ) → i < n → placed n task spares i ≡ task i
 unfolding placed
@@ -27,19 +25,6 @@ placed-task n task spares i l = rw (lt-ltb i n l)
 pub placed-spare : (n : ℕ) (task : ℕ → ℕ) (spares : ℕ) → placed n task spares n ≡ spares
 unfolding placed
 placed-spare n task spares = rw (le-ltb n n (omega arith))
-
-unfoldable pub requirementOf : Spare → ℕ
-requirementOf Nobody = 0
-requirementOf (Task e p) = e
-
-unfoldable pub periodOf : Spare → ℕ
-periodOf Nobody = 0
-periodOf (Task e p) = p
-
--- How many places a field has.
-unfoldable pub placesOf : Spare → ℕ → ℕ
-placesOf Nobody n = n
-placesOf (Task e p) n = suc n
 
 -- A place is a task's, or the spare's.
 pub data Place (s : Spare) (n i : ℕ) : Type 0 where
@@ -89,26 +74,44 @@ module _ (es ps : List ℕ) where
       go Nobody = refl
       go (Task e p) = refl
 
-  -- The counts are no more than the units gave, so the spare's is a number too.
-  pub field-entry : (ks : List ℕ) (t i : ℕ) → i < size → sum (length ks) (at ks) ≤ unitsInUse es ps * t
-      → field es ps ks t .entry i ≡ counted (requirementAt i) (periodAt i) (countAt ks t i)
-  unfolding field fieldWith size placesOf requirementAt periodAt countAt placed requirementOf periodOf taskAt spareEntry
-  field-entry ks t i l h = go (spare es ps) l
+  -- What an entry of the field is: the spare's count may be below zero.
+  pub field-entry-free : (ks : List ℕ) (t i : ℕ) → i < size → field es ps ks t .entry i ≡ record {
+    e = requirementAt i;
+    p = periodAt i;
+    k = cond (ltb i (length es)) (pos (at ks i)) (pos (unitsInUse es ps * t) -ℤ pos (sum (length ks) (at ks)));
+  }
+  unfolding field fieldWith size placesOf requirementAt periodAt placed requirementOf periodOf taskAt spareEntry
+  field-entry-free ks t i l = go (spare es ps) l
     where
-      rest : ℕ
-      rest = unitsInUse es ps * t - sum (length ks) (at ks)
+      rest : ℤ
+      rest = pos (unitsInUse es ps * t) -ℤ pos (sum (length ks) (at ks))
 
       at-spare : (e p : ℕ) (b : Bool)
           → cond b (taskAt es ps ks i) (spareEntry e p (unitsInUse es ps) ks t)
-          ≡ counted (cond b (at es i) e) (cond b (at ps i) p) (cond b (at ks i) rest)
+          ≡ record { e = cond b (at es i) e; p = cond b (at ps i) p; k = cond b (pos (at ks i)) rest }
       at-spare e p true = refl
-      at-spare e p false = ap (λ z. record { e = e; p = p; k = z }) (difference-above (unitsInUse es ps * t) (sum (length ks) (at ks)) h)
+      at-spare e p false = refl
 
-      go : (s : Spare) → i < placesOf s (length es)
-          → fieldWith (unitsInUse es ps) s es ps ks t .entry i
-          ≡ counted (placed (length es) (at es) (requirementOf s) i) (placed (length es) (at ps) (periodOf s) i) (countAt ks t i)
+      go : (s : Spare) → i < placesOf s (length es) → fieldWith (unitsInUse es ps) s es ps ks t .entry i ≡ record {
+        e = placed (length es) (at es) (requirementOf s) i;
+        p = placed (length es) (at ps) (periodOf s) i;
+        k = cond (ltb i (length es)) (pos (at ks i)) rest;
+      }
       go Nobody l = rw (lt-ltb i (length es) l)
       go (Task e p) l = at-spare e p (ltb i (length es))
+
+  -- Where the counts are no more than the units gave, the spare's is a number too.
+  pub field-entry : (ks : List ℕ) (t i : ℕ) → i < size → sum (length ks) (at ks) ≤ unitsInUse es ps * t
+      → field es ps ks t .entry i ≡ counted (requirementAt i) (periodAt i) (countAt ks t i)
+  unfolding countAt placed
+  field-entry ks t i l h =
+      field-entry-free ks t i l
+      ∙ ap (λ z. record { e = requirementAt i; p = periodAt i; k = z }) (go (ltb i (length es)))
+    where
+      go : (b : Bool) → cond b (pos (at ks i)) (pos (unitsInUse es ps * t) -ℤ pos (sum (length ks) (at ks)))
+          ≡ pos (cond b (at ks i) (unitsInUse es ps * t - sum (length ks) (at ks)))
+      go true = refl
+      go false = difference-above (unitsInUse es ps * t) (sum (length ks) (at ks)) h
 
   pub no-spare-past : (ks : List ℕ) (t i : ℕ) → i < suc (length es) → field es ps ks t .size ≤ i → spare es ps ≡ Nobody
   unfolding size

@@ -63,14 +63,25 @@ first-none (c ∷ cs) q = go (c .holds) refl q (first-none cs)
     go true h q ih = absurd (passed≢refused (sym q))
     go false h q ih = and h (ih q)
 
+-- The first refusal, or what comes after it.
+unfoldable pub orNext : Verdict → Verdict → Verdict
+orNext passed later = later
+orNext (refused r) later = refused r
+
+pub first-or : (cs ds : List Check) → first (cs ++ ds) ≡ orNext (first cs) (first ds)
+unfolding first orNext
+first-or [] ds = refl
+first-or (c ∷ cs) ds = go (c .holds) (first-or cs ds)
+  where
+    go : (b : Bool) → first (cs ++ ds) ≡ orNext (first cs) (first ds)
+        → cond b (refused (c .gives)) (first (cs ++ ds)) ≡ orNext (cond b (refused (c .gives)) (first cs)) (first ds)
+    go true ih = refl
+    go false ih = ih
+
 -- What passes the first checks is judged by the rest.
 pub first-append : (cs ds : List Check) → first cs ≡ passed → first (cs ++ ds) ≡ first ds
-unfolding first
-first-append [] ds q = refl
-first-append (c ∷ cs) ds q = go (first-none (c ∷ cs) q) (first-append cs ds)
-  where
-    go : NoneHolds (c ∷ cs) → (first cs ≡ passed → first (cs ++ ds) ≡ first ds) → cond (c .holds) (refused (c .gives)) (first (cs ++ ds)) ≡ first ds
-    go (and h n) ih = rw h (ih (none-first n))
+unfolding orNext
+first-append cs ds q = first-or cs ds ∙ ap (λ v. orNext v (first ds)) q
 
 -- ---- refusal 1
 

@@ -42,6 +42,15 @@ unfolding written each
 written-all f [] = refl
 written-all f (x ∷ xs) = ap (λ ys. f 0 ∷ ys) (written-all (λ j. f (suc j)) xs)
 
+-- what is not written may be right already
+pub written-rest : (i : ℕ) (f : ℕ → ℕ) (xs : List ℕ) → ((j : ℕ) → i ≤ j → j < length xs → at xs j ≡ f j) → written i f xs ≡ each (length xs) f
+unfolding written each
+written-rest zero f [] h = refl
+written-rest zero f (x ∷ xs) h =
+    cc (h 0 (omega arith) (omega arith), written-rest zero (λ j. f (suc j)) xs (λ j l m. h (suc j) (omega arith) (omega arith)))
+written-rest (suc i) f [] h = refl
+written-rest (suc i) f (x ∷ xs) h = ap (λ ys. f 0 ∷ ys) (written-rest i (λ j. f (suc j)) xs (λ j l m. h (suc j) (omega arith) (omega arith)))
+
 -- the first places of a longer list
 pub take-each : (k n : ℕ) (f : ℕ → ℕ) → k ≤ n → take k (each n f) ≡ each k f
 unfolding each

@@ -2,6 +2,7 @@ pub mod Limits
 pub mod Places
 pub mod Task
 pub mod Sets
+pub mod Layout
 pub mod Slot
 pub mod Refusals
 pub mod Answers
