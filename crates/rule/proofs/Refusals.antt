@@ -6,7 +6,7 @@ use mathlib.Core.Bool.{Bool, true, false, cond, not, _||_, true≢false}
 use mathlib.Core.List.{List, [], _∷_, _++_, map}
 use Prim.Native.Nat.{ℕ}
 use native.Mathlib.Omega.{arith}
-use borrow.Author.Tests.{eqb-true}
+use borrow.Author.Tests.{eqb-true, ne-eqb}
 use lib.Dec.{eqb}
 use Rattle.rule.specs.declared.Refusal.{Refusal}
 use Rattle.rule.specs.declared.Admission.the-variants.{Refused as notAdmitted}
@@ -93,6 +93,19 @@ same-length n l ls h = go (eqb l n) refl h
     go : (b : Bool) → eqb l n ≡ b → (not b || differ n ls) ≡ false → (l ≡ n) × (differ n ls ≡ false)
     go true q h = (eqb-true l n q, h)
     go false q h = absurd (true≢false h)
+
+-- A length that is not n, here or later, is a difference.
+pub differ-here : (n l : ℕ) (ls : List ℕ) → (l ≡ n → ⊥) → differ n (l ∷ ls) ≡ true
+unfolding differ
+differ-here n l ls h = rw (ne-eqb l n h)
+
+pub differ-later : (n l : ℕ) (ls : List ℕ) → differ n ls ≡ true → differ n (l ∷ ls) ≡ true
+unfolding differ
+differ-later n l ls h = rw h (go (not (eqb l n)))
+  where
+    go : (b : Bool) → (b || true) ≡ true
+    go true = refl
+    go false = refl
 
 -- ---- the entries
 

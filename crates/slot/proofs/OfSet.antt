@@ -21,7 +21,8 @@ use Rattle.rule.proofs.Placed.{size, field-size, task-place}
 use Rattle.rule.proofs.Refusals.{first-or, first-append}
 use Rattle.rule.proofs.Sets.{AcceptedSet}
 use Rattle.standing.specs.Laid.{laidEntry, laidField, laidChecks}
-use Rattle.standing.proofs.OfSet.{laidRequirements, laidPeriods, length-laid, laid-entry, laid-first}
+use Rattle.field.proofs.OfSet.{laidRequirements, laidPeriods}
+use Rattle.standing.proofs.OfSet.{length-laid, laid-entry, laid-first}
 use Rattle.slot.specs.Deal.{stuck, dealChecks, dealtCounts, dealtBytes, dealtBy, dealt}
 
 module _ (es ps : List ℕ) (m : ℕ) (A : AcceptedSet es ps m) (ks : List ℕ) (same : length ks ≡ length es) (t : ℕ) where

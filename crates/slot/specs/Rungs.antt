@@ -1,14 +1,17 @@
 -- The choice read off the rungs of the places: urgent ones, then contenders by their order.
 use mathlib.Core.Path.{_≡_}
-use mathlib.Core.Bool.{Bool, true, _&&_, _||_}
+use mathlib.Core.Bool.{Bool, true, false, _&&_, _||_}
 use mathlib.Core.List.{List}
 use Prim.Native.Nat.{ℕ, _+_, _≤_, _<_}
 use lib.Dec.{ltb}
 use lib.ListN.{length}
 use Rattle.rule.specs.Limits.{within, boundedBy, multipleMost, timeMost}
-use Rattle.rule.specs.Places.{at, count}
+use Rattle.rule.specs.declared.Outcome.the-variants.{Done, Refused}
+use Rattle.rule.specs.declared.Refusal.the-variants.{Stuck}
+use Rattle.rule.specs.Places.{at, bit, count, each}
 use Rattle.rule.specs.Task.{compare}
 use Rattle.rule.specs.Slot.{goesFirst}
+use Rattle.rule.specs.Outcomes.{SlotAfter}
 
 -- How many of the first n places have a rung from `least` to `most`.
 abbrev pub rungsWithin : ℕ → ℕ → ℕ → List ℕ → ℕ
@@ -41,3 +44,19 @@ pub record Choosing (es ps rungs : List ℕ) (t : ℕ) : Type 0 where
   pub rung-each : length es ≤ length rungs
   pub bounded : (i : ℕ) → i < length es → boundedBy multipleMost (at es i) (at ps i) ≡ true
   pub on-calendar : t ≤ timeMost
+
+-- Refusal 9 read off the rungs, and what a slot does that it does not refuse.
+unfoldable pub stuckBy : (units : ℕ) → ℕ → List ℕ → Bool
+stuckBy units n rungs = ltb units (rungsWithin 4 4 n rungs) || ltb (rungsWithin 4 4 n rungs + rungsWithin 1 3 n rungs) units
+
+unfoldable pub dealtOrStuck : Bool → (units : ℕ) → List ℕ → List ℕ → List ℕ → List ℕ → List ℕ → ℕ → SlotAfter
+dealtOrStuck true units es ps rungs ks bytes t = record { answer = Refused Stuck; counts = ks; bytes = bytes }
+dealtOrStuck false units es ps rungs ks bytes t =
+    record {
+      answer = Done;
+      counts = each (length ks) (λ i. at ks i + bit (chosenBy units es ps rungs t i));
+      bytes = each (length ks) (λ i. bit (chosenBy units es ps rungs t i));
+    }
+
+unfoldable pub dealtRungs : (units : ℕ) → List ℕ → List ℕ → List ℕ → List ℕ → List ℕ → ℕ → SlotAfter
+dealtRungs units es ps rungs ks bytes t = dealtOrStuck (stuckBy units (length es) rungs) units es ps rungs ks bytes t

@@ -1,1 +1,6 @@
+pub mod Integers
+pub mod Rungs
+pub mod Lists
+pub mod Entries
+pub mod Answers
 pub mod OfSet

@@ -26,14 +26,8 @@ use Rattle.rule.specs.Layout.{placesOf}
 use Rattle.rule.proofs.Placed.{size, requirementAt, periodAt, requirement-task, period-task, requirement-spare, period-spare, at-places, field-size, field-entry-free}
 use Rattle.rule.proofs.Refusals.{NoneHolds, none, and, none-first, first-append}
 use Rattle.rule.proofs.Sets.{AcceptedSet, SpareTask}
+use Rattle.field.proofs.OfSet.{laidRequirements, laidPeriods}
 use Rattle.standing.specs.Laid.{laidCount, laidEntry, laidField, laidOut, wildPlace, laidUnfair, laidUnfairPlace, laidChecks}
-
--- The requirements and the periods of a set's field, the spare's last.
-unfoldable pub laidRequirements : List ℕ → List ℕ → List ℕ
-laidRequirements es ps = each (size es ps) (requirementAt es ps)
-
-unfoldable pub laidPeriods : List ℕ → List ℕ → List ℕ
-laidPeriods es ps = each (size es ps) (periodAt es ps)
 
 module _ (es ps : List ℕ) where
   pub length-laid : length (laidRequirements es ps) ≡ size es ps
