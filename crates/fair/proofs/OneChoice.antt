@@ -19,25 +19,11 @@ use Rattle.rule.specs.Outcomes.{SlotAfter, slotBy, slot, runsAt, countsAfter, b
 use Rattle.rule.proofs.Tests.{neither-true}
 use Rattle.rule.proofs.Places.{each-ext}
 use Rattle.rule.proofs.Refusals.{NoneHolds, none, and, first-none}
+use Rattle.rule.proofs.Slots.{slot-passed, done-slot}
 use Rattle.rule.proofs.Choice.{IsChoice, chosen-is-choice, one-choice}
 use Rattle.rule.proofs.Placed.{task-place, field-size}
 
--- ---- a slot that was done
-
-verdict-passed : (es ps ks bytes : List ℕ) (t : ℕ) (v : Verdict) → slotBy v es ps ks bytes t .answer ≡ Done → v ≡ passed
-unfolding slotBy
-verdict-passed es ps ks bytes t passed q = refl
-verdict-passed es ps ks bytes t (refused r) q = absurd (let z : _≡_ {A = ℕ} 0 1 = cc in omega arith)
-
 module _ (es ps ks bytes : List ℕ) (m t : ℕ) (q : slot es ps ks bytes m t .answer ≡ Done) where
-  slot-passed : first (slotChecks es ps ks bytes m t) ≡ passed
-  unfolding slot
-  slot-passed = verdict-passed es ps ks bytes t (first (slotChecks es ps ks bytes m t)) q
-
-  pub done-slot : slot es ps ks bytes m t ≡ record { answer = Done; counts = countsAfter es ps ks t; bytes = bytesAfter es ps ks t }
-  unfolding slot slotBy
-  done-slot = rw slot-passed
-
   -- ---- it chose by the rule
 
   class-check : NoneHolds (slotChecks es ps ks bytes m t) → classes es ps ks t .holds ≡ false
@@ -48,7 +34,7 @@ module _ (es ps ks bytes : List ℕ) (m t : ℕ) (q : slot es ps ks bytes m t .a
   outcome-is-choice =
       let f = field es ps ks t in
       let M = unitsInUse es ps in
-      let c = neither-true (ltb M (urgents t f)) (ltb (notTnegrus t f) M) (class-check (first-none (slotChecks es ps ks bytes m t) slot-passed)) in
+      let c = neither-true (ltb M (urgents t f)) (ltb (notTnegrus t f) M) (class-check (first-none (slotChecks es ps ks bytes m t) (slot-passed es ps ks bytes m t q))) in
       chosen-is-choice M t f (ltb-false M (urgents t f) (c .0)) (ltb-false (notTnegrus t f) M (c .1))
 
   -- ---- and every choice by the rule is that one
@@ -66,7 +52,7 @@ module _ (es ps ks bytes : List ℕ) (m t : ℕ) (q : slot es ps ks bytes m t .a
         ≡ record { answer = Done; counts = each (length es) (λ i. at ks i + bit (ch i)); bytes = each (length es) (λ i. bit (ch i)) }
     unfolding countsAfter bytesAfter
     one-right-choice =
-        done-slot
+        done-slot es ps ks bytes m t q
         ∙ ap (λ bs. record { answer = Done; counts = countsAfter es ps ks t; bytes = bs })
         (each-ext (length es) (λ i. bit (runsAt es ps ks t i)) (λ i. bit (ch i)) (λ i l. ap bit (sym (same-task i l))))
         ∙ ap (λ cs. record { answer = Done; counts = cs; bytes = each (length es) (λ i. bit (ch i)) })

@@ -21,16 +21,11 @@ use Rattle.rule.proofs.Tests.{neither-true}
 use Rattle.rule.proofs.Places.{length-each}
 use Rattle.rule.proofs.Refusals.{Given, given-first, NoneHolds, none, and, first-none}
 use Rattle.fair.specs.Slots.{slotNo, countsNo, IsSlots}
-use Rattle.fair.proofs.OneChoice.{done-slot}
+use Rattle.rule.proofs.Slots.{done-bytes}
 
 module _ (es ps : List ℕ) (m : ℕ) where
   abbrev n : ℕ
   n = length es
-
-  -- A done slot wrote n bytes.
-  done-bytes : (t : ℕ) (ks bytes : List ℕ) → slot es ps ks bytes m t .answer ≡ Done → length (slot es ps ks bytes m t .bytes) ≡ n
-  unfolding bytesAfter
-  done-bytes t ks bytes q = ap (λ r. length (r .bytes)) (done-slot es ps ks bytes m t q) ∙ length-each n (λ i. bit (runsAt es ps ks t i))
 
   -- ---- a run that stops here
 
@@ -69,7 +64,7 @@ module _ (es ps : List ℕ) (m : ℕ) where
               ∙ ap (λ x. drop x log) (sym (one-part (r .answer .done)));
           whole =
               length-append (now .bytes) (r .log)
-              ∙ omega (arith, done-bytes t ks (take n log) q, R .whole, length-drop n log, long);
+              ∙ omega (arith, done-bytes es ps ks (take n log) m t q, R .whole, length-drop n log, long);
           ended = ⊎-elim (λ e. inl (ap suc (e .0), e .1)) (λ e. inr (e .0, omega (arith, e .1), e .2, e .3)) (R .ended);
         }
       where
@@ -82,11 +77,11 @@ module _ (es ps : List ℕ) (m : ℕ) where
 
         past : (j : ℕ) → drop (n * suc j) (now .bytes ++ r .log) ≡ drop (n * j) (r .log)
         past j =
-            ap (λ x. drop x (now .bytes ++ r .log)) (one-part j ∙ ap (λ x. x + n * j) (sym (done-bytes t ks (take n log) q)))
+            ap (λ x. drop x (now .bytes ++ r .log)) (one-part j ∙ ap (λ x. x + n * j) (sym (done-bytes es ps ks (take n log) m t q)))
             ∙ drop-append-add (now .bytes) (r .log) (n * j)
 
         writtens : (j : ℕ) → j < suc (r .answer .done) → take n (drop (n * j) (now .bytes ++ r .log)) ≡ slotNo j es ps m t ks log .bytes
-        writtens zero l = rw (mul-zero n) (take-at (now .bytes) (r .log) n (done-bytes t ks (take n log) q))
+        writtens zero l = rw (mul-zero n) (take-at (now .bytes) (r .log) n (done-bytes es ps ks (take n log) m t q))
         writtens (suc j) l = rw (past j) (R .written j (omega arith))
 
   -- ---- the theorem

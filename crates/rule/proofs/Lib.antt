@@ -12,3 +12,4 @@ pub mod Choice
 pub mod Sets
 pub mod Placed
 pub mod Fields
+pub mod Slots

@@ -19,7 +19,9 @@ contends c =
     told-yes (onContending (s .rungs .now) (s .j)) (c .before .on-rung .ensures) (c .if1 .left)
 
 -- The answer of `goes_first` is the one for place j before place i.
-goes : (c : tie.After-goes-first) → let s = start (c .before .before .before .before .before .before) .args in c .goes-first .result ≡ goesBefore (s .requirements .now) (s .periods .now) (s .t) (s .j) (s .i)
+goes : (c : tie.After-goes-first)
+    → let s = start (c .before .before .before .before .before .before) .args in
+    c .goes-first .result ≡ goesBefore (s .requirements .now) (s .periods .now) (s .t) (s .j) (s .i)
 goes c = c .goes-first .ensures
 
 shared-slice-read-on-rung : tie.Need-shared-slice-read-on-rung

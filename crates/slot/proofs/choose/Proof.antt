@@ -97,7 +97,7 @@ loop-again c =
     let x = start l .args in
     let chosen = c .before .before .is-chosen .ensures in
     let sum = at (l .loop .counts) i + c .wide .result in
-    let counted = turn-written i (raise l) (x .counts .now) (l .loop .counts) (l .loop .inv .3) sum (cc (old l, c .wide .ensures, chosen)) in
+    let counted = turn-written i (raise l) (x .counts .now) (l .loop .counts) (l .loop .inv .3) sum (omega (arith, old l)) in
     let marked = turn-written i (pick l) (x .bytes .now) (l .loop .bytes) (l .loop .inv .4) (c .before .before .is-chosen .result) chosen in
     (omega arith, simp length-set (omega arith), simp length-set (omega arith), counted, marked)
 

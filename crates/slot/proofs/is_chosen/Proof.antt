@@ -28,7 +28,11 @@ rank c =
     let es = x .requirements .now in
     rankTo (length es) es (x .periods .now) (x .rungs .now) (x .t) (x .i)
 
-by-rank : (c : tie.Else2) → let x = start c .args in let es = x .requirements .now in let rungs = x .rungs .now in chosenBy (rungsWithin 4 4 (length es) rungs + x .room) es (x .periods .now) rungs (x .t) (x .i) ≡ ltb (rank c) (x .room)
+by-rank : (c : tie.Else2)
+    → let x = start c .args in
+    let es = x .requirements .now in
+    let rungs = x .rungs .now in
+    chosenBy (rungsWithin 4 4 (length es) rungs + x .room) es (x .periods .now) rungs (x .t) (x .i) ≡ ltb (rank c) (x .room)
 by-rank c =
     let x = start c .args in
     chosen-contending (x .requirements .now) (x .periods .now) (x .rungs .now) (x .t) (x .i) (x .room) (c .before .before .if1 .left) (contends c)
@@ -66,14 +70,12 @@ contenders-before-requires c κs = search needs
 returns-4 : tie.Need-returns-4
 returns-4 c =
     let here = c .before .before .before in
-    let counted = c .before .contenders-before .ensures in
     let x = start here .args in
     rw (by-rank here, lt-ltb (rank here) (x .room) (omega arith))
 
 returns-5 : tie.Need-returns-5
 returns-5 c =
     let here = c .before .before .before in
-    let counted = c .before .contenders-before .ensures in
     let x = start here .args in
     rw (by-rank here, le-ltb (rank here) (x .room) (omega arith))
 
