@@ -13,6 +13,7 @@ use Rattle.rule.specs.declared.Admission.the-variants.{Refused as notAdm
 use Rattle.rule.specs.declared.Comparison.the-variants.{Refused as notCompared}
 use Rattle.rule.specs.declared.Outcome.the-variants.{Done, Refused}
 use Rattle.rule.specs.Answers.{numberOf}
+use Rattle.rule.proofs.Tests.{or-right}
 use Rattle.rule.specs.Task.{compare}
 use Rattle.rule.specs.Refusals.{Check, Verdict, passed, refused, first, differ, setChecks, admissionChecks, slotChecks, listingChecks, runChecks, comparisonChecks}
 use Rattle.rule.specs.Outcomes.{admissionBy, admission, comparisonBy, comparison, slotBy, slot, listingBy, listing}
@@ -101,11 +102,7 @@ differ-here n l ls h = rw (ne-eqb l n h)
 
 pub differ-later : (n l : ℕ) (ls : List ℕ) → differ n ls ≡ true → differ n (l ∷ ls) ≡ true
 unfolding differ
-differ-later n l ls h = rw h (go (not (eqb l n)))
-  where
-    go : (b : Bool) → (b || true) ≡ true
-    go true = refl
-    go false = refl
+differ-later n l ls h = or-right (not (eqb l n)) (differ n ls) h
 
 -- ---- the entries
 

@@ -13,6 +13,13 @@ pub neither-true : (a b : Bool) → (a || b) ≡ false → (a ≡ false) × (b �
 neither-true true b e = absurd (true≢false e)
 neither-true false b e = (refl, e)
 
+pub or-left : (a b : Bool) → a ≡ true → (a || b) ≡ true
+or-left a b h = rw h
+
+pub or-right : (a b : Bool) → b ≡ true → (a || b) ≡ true
+or-right true b h = refl
+or-right false b h = h
+
 pub and-ext : (a b c : Bool) → (a ≡ true → b ≡ c) → (a && b) ≡ (a && c)
 and-ext true b c h = h refl
 and-ext false b c h = refl

@@ -91,3 +91,98 @@ fn run_laid(
         end: Outcome::Done,
     }
 }
+
+// The slots of a set that admission accepts.
+fn run_accepted(
+    requirements: &[u32],
+    periods: &[u32],
+    counts: &mut [u32],
+    log: &mut [u8],
+    accepted: Accepted,
+    slots: u32,
+    m: u32,
+    t: u32,
+) -> Ran
+    requires { ⌜ admission (now requirements) (now periods) m ≡ Admission.Accepted accepted ⌝ }
+    requires { ⌜ (length (now counts) ≡ length (now requirements)) × (length (now log) ≡ slots * length (now requirements)) × (slots ≤ slotsMost) ⌝ }
+    ensures answer { λ r. ⌜ r ≡ slotsFrom slots (now (requirements .entry)) (now (periods .entry)) m t (now (counts .entry)) (now (log .entry)) .answer ⌝ }
+    ensures counts { λ r. ⌜ now (counts .exit) ≡ slotsFrom slots (now (requirements .entry)) (now (periods .entry)) m t (now (counts .entry)) (now (log .entry)) .counts ⌝ }
+    ensures log { λ r. ⌜ now (log .exit) ≡ slotsFrom slots (now (requirements .entry)) (now (periods .entry)) m t (now (counts .entry)) (now (log .entry)) .log ⌝ }
+{
+    let spare = accepted.spare;
+    let laid = field::lay_out(requirements, periods, spare);
+    let size = laid.size;
+    let es = laid.requirements;
+    let ps = laid.periods;
+    run_laid(
+        requirements,
+        periods,
+        &es[..size],
+        &ps[..size],
+        counts,
+        log,
+        slots,
+        accepted.units,
+        m,
+        t,
+    )
+}
+
+// A run that was stopped before its first slot.
+fn stopped(refusal: Refusal) -> Ran
+    ensures { λ r. ⌜ r ≡ record { done = 0; end = Outcome.Refused refusal } ⌝ }
+{
+    Ran {
+        done: 0,
+        end: Outcome::Refused(refusal),
+    }
+}
+
+// So many slots of a set on m units from time t on: refusal 10, then 1, then slot by slot up to the first refusal.
+pub fn run(
+    slots: u32,
+    requirements: &[u32],
+    periods: &[u32],
+    counts: &mut [u32],
+    log: &mut [u8],
+    m: u32,
+    t: u32,
+) -> Ran
+    ensures answer { λ r. ⌜ r ≡ runOf slots (now (requirements .entry)) (now (periods .entry)) (now (counts .entry)) (now (log .entry)) m t .answer ⌝ }
+    ensures counts { λ r. ⌜ now (counts .exit) ≡ runOf slots (now (requirements .entry)) (now (periods .entry)) (now (counts .entry)) (now (log .entry)) m t .counts ⌝ }
+    ensures log { λ r. ⌜ now (log .exit) ≡ runOf slots (now (requirements .entry)) (now (periods .entry)) (now (counts .entry)) (now (log .entry)) m t .log ⌝ }
+{
+    if slots > rule::SLOTS_MOST {
+        return stopped(Refusal::Slots);
+    }
+    let n = requirements.len();
+    if periods.len() != n {
+        return stopped(Refusal::Lengths);
+    }
+    if counts.len() != n {
+        return stopped(Refusal::Lengths);
+    }
+    if !is_log(log.len(), slots, n) {
+        return stopped(Refusal::Lengths);
+    }
+    // With no slot to run, nothing of the set is looked at.
+    if slots == 0 {
+        return Ran {
+            done: 0,
+            end: Outcome::Done,
+        };
+    }
+    match admission::admit(requirements, periods, m) {
+        Admission::Refused(refusal) => stopped(refusal),
+        Admission::Accepted(accepted) => run_accepted(
+            requirements,
+            periods,
+            counts,
+            log,
+            accepted,
+            slots,
+            m,
+            t,
+        ),
+    }
+}

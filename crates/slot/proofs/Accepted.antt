@@ -1,10 +1,9 @@
 -- A slot of a set, by what admission answers: another length or a refusal of admission is the slot's own, and of an accepted set the
 -- laid-out field is dealt. Assumes nothing.
-use mathlib.Core.Path.{_≡_, refl, sym, ap, _∙_, subst}
+use mathlib.Core.Path.{_≡_, refl, sym, subst}
 use mathlib.Core.Bool.{Bool, true, false, not, _||_}
 use mathlib.Core.List.{List, [], _∷_, _++_}
 use Prim.Native.Nat.{ℕ, _≤_, _<_}
-use native.Mathlib.Omega.{arith}
 use borrow.Author.Tests.{eq-eqb, ne-eqb}
 use lib.Dec.{eqb}
 use lib.ListN.{length, take}
@@ -13,18 +12,14 @@ use Rattle.rule.specs.declared.Admission.the-variants.{Accepted as accepted, Re
 use Rattle.rule.specs.declared.Outcome.the-variants.{Refused}
 use Rattle.rule.specs.declared.Refusal.{Refusal}
 use Rattle.rule.specs.declared.Refusal.the-variants.{Lengths}
-use Rattle.rule.specs.Sets.{unitsInUse, multiple, spare}
 use Rattle.rule.specs.Refusals.{passed, refused, first, differ, times, lags, classes, setChecks, admissionChecks, slotChecks}
 use Rattle.rule.specs.Outcomes.{acceptance, admission, SlotAfter, slotBy, slot}
 use Rattle.rule.proofs.Sets.{AcceptedSet, accepted-set}
 use Rattle.rule.proofs.Refusals.{orNext, first-or, given-first, admission-refusal}
 use Rattle.admission.proofs.Laws.{accepted-tells, refused-tells}
 use Rattle.field.specs.declared.Laid.{Laid}
-use Rattle.field.specs.LayOut.{layOut, filledWith}
-use Rattle.rule.specs.Layout.{placed, requirementOf, periodOf}
-use Rattle.rule.specs.Places.{at, each}
-use Rattle.rule.proofs.Places.{length-each}
-use Rattle.field.proofs.OfSet.{laidRequirements, laidPeriods, laid-requirements, laid-periods, laid-size, size-fits}
+use Rattle.field.specs.LayOut.{layOut}
+use Rattle.field.proofs.Accepted.{accepted-units, laid-fits as field-fits, accepted-requirements, accepted-periods}
 use Rattle.slot.specs.Deal.{dealt}
 use Rattle.slot.proofs.OfSet.{dealt-is-slot}
 
@@ -59,26 +54,15 @@ module _ (es ps ks bytes : List ℕ) (m t : ℕ) where
       set : AcceptedSet es ps m
       set = accepted-set es ps m (tells .0) (tells .1)
 
-      own : laid ≡ layOut es ps (spare es ps)
-      unfolding acceptance
-      own = out ∙ ap (λ a. layOut es ps (a .spare)) (tells .2)
-
-      units-are : a .units ≡ unitsInUse es ps
-      unfolding acceptance
-      units-are = ap (λ a. a .units) (tells .2)
-
       -- The laid-out lists have room for the whole field.
       pub laid-fits : (laid .size ≤ length (laid .requirements)) × (laid .size ≤ length (laid .periods))
-      unfolding layOut filledWith
-      laid-fits =
-          let small = size-fits es ps (tells .0) (set .tasks-le) in
-          let here = ap (λ l. l .size) own ∙ laid-size es ps (tells .0) (set .tasks-le) in
-          let first = ap (λ l. length (l .requirements)) own ∙ length-each 65 (placed (length es) (at es) (requirementOf (spare es ps))) in
-          let second = ap (λ l. length (l .periods)) own ∙ length-each 65 (placed (length ps) (at ps) (periodOf (spare es ps))) in
-          (omega arith, omega arith)
+      laid-fits = field-fits es ps m set a (tells .2) laid out
 
       pub dealt-set : dealt (a .units) (take (laid .size) (laid .requirements)) (take (laid .size) (laid .periods)) ks bytes t ≡ slot es ps ks bytes m t
       dealt-set =
-          ap (λ l. dealt (a .units) (take (l .size) (l .requirements)) (take (l .size) (l .periods)) ks bytes t) own
-          ∙ rw (units-are, laid-requirements es ps (tells .0) (set .tasks-le), laid-periods es ps (tells .0) (set .tasks-le))
+          rw (
+            accepted-units es ps m set a (tells .2) laid out,
+            accepted-requirements es ps m set a (tells .2) laid out,
+            accepted-periods es ps m set a (tells .2) laid out,
+          )
           (dealt-is-slot es ps m set ks same t bytes wide (tells .1))

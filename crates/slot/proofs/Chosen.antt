@@ -1,24 +1,22 @@
 -- The choice read off the rungs is the rule's: a rung is 4 exactly for an urgent place and 1 to 3 exactly for a contender, so the
 -- counts and the order are the field's own. Assumes nothing.
-use mathlib.Core.Path.{_≡_, refl, sym, ap, _∙_, subst}
+use mathlib.Core.Path.{_≡_, refl, sym, ap, subst}
 use mathlib.Core.Bool.{Bool, true, false, cond, _&&_, _||_}
 use mathlib.Core.List.{List}
 use Prim.Native.Nat.{ℕ, _+_, _≤_, _<_}
-use native.Mathlib.Omega.{arith}
-use borrow.Author.Tests.{lt-ltb}
-use lib.Dec.{ltb}
 use lib.ListN.{length}
 use Rattle.rule.specs.declared.Standing.{Standing}
 use Rattle.rule.specs.declared.Standing.the-variants.{Ahead, Punctual, Behind}
 use Rattle.rule.specs.Limits.{within}
-use Rattle.rule.specs.Places.{at, bit, sum, count}
+use Rattle.rule.specs.Places.{bit, sum, count}
 use Rattle.rule.specs.Task.{Entry, standing}
 use Rattle.rule.specs.Sets.{Field}
 use Rattle.rule.specs.Slot.{tnegru, urgent, contending, urgents, notTnegrus, precedes, contendersBefore, chosen}
-use Rattle.rule.proofs.Places.{count-ext, at-each}
+use Rattle.rule.proofs.Places.{count-ext}
 use Rattle.rule.proofs.Choice.{Class, of-tnegru, of-urgent, of-contending, classes-apart, not-tnegru-count}
 use Rattle.standing.specs.Laid.{laidEntry, laidField}
 use Rattle.standing.specs.Judged.{between, rung, rungsOf}
+use Rattle.standing.proofs.Told.{at-rungs}
 use Rattle.slot.specs.Rungs.{rungsWithin, onUrgent, onContending, goesBefore, rankTo, chosenBy}
 
 -- ---- a rung says the class
@@ -60,16 +58,11 @@ module _ (units : ℕ) (es ps ks : List ℕ) (t : ℕ) (few : length es ≤ 65) 
   abbrev rungs : List ℕ
   rungs = rungsOf units es ps ks t
 
-  at-rungs : (i : ℕ) → i < length es → at rungs i ≡ rung t (laidEntry units es ps ks t i)
-  unfolding rungsOf
-  at-rungs i l =
-      at-each 65 (λ i. cond (ltb i (length es)) (rung t (laidEntry units es ps ks t i)) 0) i (omega arith) ∙ rw (lt-ltb i (length es) l)
-
   pub on-urgent : (i : ℕ) → i < length es → onUrgent rungs i ≡ urgent t (laidEntry units es ps ks t i)
-  on-urgent i l = rw (at-rungs i l) (rung-urgent t (laidEntry units es ps ks t i))
+  on-urgent i l = rw (at-rungs units es ps ks t few i l) (rung-urgent t (laidEntry units es ps ks t i))
 
   pub on-contending : (i : ℕ) → i < length es → onContending rungs i ≡ contending t (laidEntry units es ps ks t i)
-  on-contending i l = rw (at-rungs i l) (rung-contending t (laidEntry units es ps ks t i))
+  on-contending i l = rw (at-rungs units es ps ks t few i l) (rung-contending t (laidEntry units es ps ks t i))
 
   pub urgents-counted : rungsWithin 4 4 (length es) rungs ≡ urgents t f
   unfolding urgents laidField

@@ -9,7 +9,6 @@ use native.Mathlib.Omega.{arith}
 use borrow.Author.Tests.{eq-eqb, ne-eqb, eqb-true, ltb-false, leb-false, not-false, lt-ltb}
 use lib.Dec.{ltb, leb, eqb}
 use lib.ListN.{length}
-use Rattle.rule.specs.declared.Outcome.{Outcome}
 use Rattle.rule.specs.declared.Outcome.the-variants.{Done, Refused}
 use Rattle.rule.specs.declared.Refusal.{Refusal}
 use Rattle.rule.specs.declared.Refusal.the-variants.{Lengths, Stuck}
@@ -17,7 +16,7 @@ use Rattle.rule.specs.Limits.{multipleMost, timeMost, tasksMost, within, bounde
 use Rattle.rule.specs.Places.{at, bit, each, lowest}
 use Rattle.rule.specs.Task.{fair}
 use Rattle.rule.specs.Slot.{urgents, chosen}
-use Rattle.rule.specs.Refusals.{Check, check, Verdict, passed, refused, first}
+use Rattle.rule.specs.Refusals.{Check, check, passed, refused, first}
 use Rattle.rule.specs.Outcomes.{SlotAfter}
 use Rattle.rule.proofs.Lags.{counted, Bounds, fair-bounds}
 use Rattle.rule.proofs.Limits.{bounded-numbers, within-numbers}
@@ -26,9 +25,10 @@ use Rattle.rule.proofs.Refusals.{NoneHolds, none, and, orNext, first-or, first-
 use Rattle.rule.proofs.Tests.{both-true}
 use Rattle.standing.specs.declared.Judged.{Judged}
 use Rattle.standing.specs.Laid.{laidCount, laidEntry, laidField, laidOut, wildPlace, laidUnfair, laidUnfairPlace, laidChecks}
-use Rattle.standing.specs.Judged.{rungsOf, judgedBy, judged}
+use Rattle.standing.specs.Judged.{rungsOf, judged}
 use Rattle.standing.specs.Sound.{Sound}
 use Rattle.standing.proofs.Answers.{sound-lists, all-fair}
+use Rattle.standing.proofs.Told.{judged-refused, judged-passed, judged-rungs}
 use Rattle.slot.specs.Rungs.{Choosing, rungsWithin, chosenBy, stuckBy, dealtOrStuck, dealtRungs}
 use Rattle.slot.specs.Deal.{stuck, dealChecks, dealtCounts, dealtBytes, dealtBy, dealt}
 use Rattle.slot.proofs.Chosen.{urgents-counted, not-tnegrus-counted, chosen-by-rungs}
@@ -44,30 +44,6 @@ passed-tells units es ps ks t (and o (and n (and u (and w (and c (and l none))))
     )
 
 module _ (units : ℕ) (es ps ks bytes : List ℕ) (t : ℕ) where
-  -- ---- the verdict
-
-  outcomeOf : Verdict → Outcome
-  outcomeOf passed = Done
-  outcomeOf (refused r) = Refused r
-
-  judged-outcome : judged units es ps ks t .outcome ≡ outcomeOf (first (laidChecks units es ps ks t))
-  unfolding judged judgedBy outcomeOf
-  judged-outcome = go (first (laidChecks units es ps ks t))
-    where
-      go : (v : Verdict) → judgedBy v units es ps ks t .outcome ≡ outcomeOf v
-      go passed = refl
-      go (refused r) = refl
-
-  outcome-refused : (v : Verdict) (r : Refusal) → outcomeOf v ≡ Refused r → v ≡ refused r
-  unfolding outcomeOf
-  outcome-refused passed r q = absurd (let z : _≡_ {A = ℕ} 0 1 = cc in omega arith)
-  outcome-refused (refused r′) r q = cc
-
-  outcome-done : (v : Verdict) → outcomeOf v ≡ Done → v ≡ passed
-  unfolding outcomeOf
-  outcome-done passed q = refl
-  outcome-done (refused r) q = absurd (let z : _≡_ {A = ℕ} 0 1 = cc in omega arith)
-
   -- ---- the refusals
 
   -- Bytes that are not as many as the counts.
@@ -83,15 +59,11 @@ module _ (units : ℕ) (es ps ks bytes : List ℕ) (t : ℕ) where
 
     pub dealt-refused : (r : Refusal) → judged units es ps ks t .outcome ≡ Refused r → dealt units es ps ks bytes t ≡ record { answer = Refused r; counts = ks; bytes = bytes }
     unfolding dealt dealtBy orNext
-    dealt-refused r q = rw (deal-verdict, outcome-refused (first (laidChecks units es ps ks t)) r (sym judged-outcome ∙ q))
+    dealt-refused r q = rw (deal-verdict, judged-refused units es ps ks t r q)
 
     module _ (q : judged units es ps ks t .outcome ≡ Done) where
       passes : first (laidChecks units es ps ks t) ≡ passed
-      passes = outcome-done (first (laidChecks units es ps ks t)) (sym judged-outcome ∙ q)
-
-      pub judged-rungs : judged units es ps ks t .rungs ≡ rungsOf units es ps ks t
-      unfolding judged judgedBy
-      judged-rungs = rw passes
+      passes = judged-passed units es ps ks t q
 
       -- ---- what the choice may rely on
 
@@ -160,7 +132,7 @@ module _ (units : ℕ) (es ps ks bytes : List ℕ) (t : ℕ) (wide : length byte
   done = ap (λ r. r .outcome) (sym is) ∙ q
 
   rungs-are : j .rungs ≡ rungsOf units es ps ks t
-  rungs-are = ap (λ r. r .rungs) is ∙ judged-rungs units es ps ks bytes t wide done
+  rungs-are = ap (λ r. r .rungs) is ∙ judged-rungs units es ps ks t done
 
   pub ready : Choosing es ps (j .rungs) t × (((length ks ≤ length es) × (length bytes ≡ length ks)) × ((i : ℕ) → i < length ks → at ks i < 4294967295))
   ready = (

@@ -4,3 +4,4 @@ pub mod Lists
 pub mod Entries
 pub mod Answers
 pub mod OfSet
+pub mod Told

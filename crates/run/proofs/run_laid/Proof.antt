@@ -59,11 +59,10 @@ deal-part-requires : tie.Need-deal-part-requires Inv-loop μ-loop
 deal-part-requires c κs =
     let test = c .before .before in
     let l = test .before in
-    let a = l .before .before .before .before .before .before .before .args in
-    (
+    let a = l .before .before .before .before .before .before .before .args in (
       omega arith,
       part-inside (a .requirements .now) (a .periods .now) (a .m) (a .slots) (a .t) (a .counts .now) (a .log .now) (l .loop .counts) (l .loop .log) (l .loop .done) (l .loop .from)
-      (l .loop .inv) (test .loop-test .taken),
+          (l .loop .inv) (test .loop-test .taken),
     )
 
 -- src/lib.rt:80:33
