@@ -87,7 +87,7 @@ fn run_laid(
         done += 1;
     }
     Ran {
-        done: done,
+        done: slots,
         end: Outcome::Done,
     }
 }

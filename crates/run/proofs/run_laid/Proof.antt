@@ -6,6 +6,7 @@ use native.Mathlib.Omega.{arith}
 use native.Mathlib.Numerals.{add-one}
 use borrow.Author.Needs.{needs}
 use lib.ListN.{length}
+use Rattle.rule.specs.declared.Outcome.the-variants.{Done}
 use Rattle.run.proofs.Turns.{Going, going-start, going-end, part-inside}
 use Rattle.run.proofs.Laid.{Laid, parts, turned-refused, turned-done}
 use Rattle.run.proofs.run_laid.Statement.{statement}
@@ -126,10 +127,13 @@ returns-2 : tie.Need-returns-2 Inv-loop μ-loop
 returns-2 c =
     let l = c .before in
     let a = l .before .before .before .before .before .before .before .args in
+    let all : a .slots ≡ l .loop .done = omega (arith, l .loop .inv .few) in
+    let p =
     parts
     (sym
     (going-end (a .requirements .now) (a .periods .now) (a .m) (a .slots) (a .t) (a .counts .now) (a .log .now) (l .loop .counts) (l .loop .log) (l .loop .done) (l .loop .from)
     (l .loop .inv) (c .loop-test .left)))
+    in (ap (λ d. record { done = d; end = Done }) all ∙ p .0, p .1)
 
 pub run-laid-spec : {M : Type 1} → statement M
 run-laid-spec =
