@@ -89,7 +89,9 @@ module _ (es ps ks bytes : List ℕ) (m t : ℕ) where
 
         pub listing-not-judged : (r : Refusal) → j .outcome ≡ Refused r → unchanged r ≡ listing es ps ks bytes m t
         unfolding listing listingBy
-        listing-not-judged r h = rw (verdict, judged-refused (unitsInUse es ps) (laidRequirements es ps) (laidPeriods es ps) ks t r (ap (λ j. j .outcome) (sym judged-set) ∙ h))
+        listing-not-judged r h =
+            let given = ap (λ j. j .outcome) (sym judged-set) ∙ h in
+            rw (verdict, judged-refused (unitsInUse es ps) (laidRequirements es ps) (laidPeriods es ps) ks t r given)
 
         module _ (h : j .outcome ≡ Done) where
           done : judged (unitsInUse es ps) (laidRequirements es ps) (laidPeriods es ps) ks t .outcome ≡ Done
@@ -103,7 +105,8 @@ module _ (es ps ks bytes : List ℕ) (m t : ℕ) where
           unfolding rungsOf
           rungs-cover = let all = ap length rungs-are ∙ length-each 65 _ in omega (arith, set .tasks-le)
 
-          pub listing-marked : (bs : List ℕ) → bs ≡ marksBy (length bytes) (j .rungs) → record { answer = Done; bytes = bs } ≡ listing es ps ks bytes m t
+          pub listing-marked : (bs : List ℕ) → bs ≡ marksBy (length bytes) (j .rungs)
+              → record { answer = Done; bytes = bs } ≡ listing es ps ks bytes m t
           unfolding listing listingBy
           listing-marked bs written =
               rw (verdict, judged-passed (unitsInUse es ps) (laidRequirements es ps) (laidPeriods es ps) ks t done, written, wide, rungs-are)

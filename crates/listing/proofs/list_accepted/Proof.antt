@@ -10,7 +10,8 @@ use Rattle.listing.proofs.list_accepted.Statement.{statement}
 use Rattle.listing.proofs.list_accepted.Tie as tie
 
 -- The laid-out lists are long enough, wherever that is asked.
-long-enough : (c : tie.After-lay-out) → (c .lay-out .result .size ≤ length (c .lay-out .result .requirements)) × (c .lay-out .result .size ≤ length (c .lay-out .result .periods))
+long-enough : (c : tie.After-lay-out)
+    → (c .lay-out .result .size ≤ length (c .lay-out .result .requirements)) × (c .lay-out .result .size ≤ length (c .lay-out .result .periods))
 long-enough c =
     let s = c .before .before .before .before .before in
     let a = s .args in
@@ -77,7 +78,8 @@ returns-2 c =
     let a = s .args in
     parts
     (listing-marked (a .requirements .now) (a .periods .now) (a .counts .now) (a .bytes .now) (a .m) (a .t) (s .pre .1 .0) (s .pre .1 .1)
-    (a .accepted) (s .pre .0) (l .lay-out .result) (l .lay-out .ensures) (judged .judge .result) (judged .judge .ensures) (told .enum-told .given .1) _ (marked .write-marks .ensures))
+    (a .accepted) (s .pre .0) (l .lay-out .result) (l .lay-out .ensures) (judged .judge .result) (judged .judge .ensures)
+    (told .enum-told .given .1) _ (marked .write-marks .ensures))
 
 pub list-accepted-spec : {M : Type 1} → statement M
 list-accepted-spec =

@@ -1,0 +1,8 @@
+pub mod Digits
+pub mod Fields
+pub mod Lines
+pub mod Kinds
+pub mod Session
+pub mod Replies
+pub mod Transcript
+pub mod Cases
