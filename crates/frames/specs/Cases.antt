@@ -15,8 +15,8 @@ use Rattle.rule.specs.Sets.{multiple, load, unitsInUse, room, spare, taskAt, sp
 use Rattle.rule.specs.Slot.{tnegru, urgent, contending, urgents, notTnegrus, precedes, contendersBefore, chosen}
 use Rattle.rule.specs.Refusals.{first, differ, invalidPlace, unfairAt, unfairPlace, setChecks, admissionChecks, slotChecks, listingChecks, runChecks}
 use Rattle.rule.specs.Outcomes.{admissionBy, admission, acceptance, slotBy, slot, runsAt, countsAfter, bytesAfter, runBy, run as runOf, slotsFrom, afterSlot, listingBy, listing, markAt}
-use Rattle.frames.specs.Digits.{allDigits, bytesOf, digitsOf}
-use Rattle.frames.specs.Fields.{fieldAt, field}
+use Rattle.hex.specs.Digits.{allDigits, bytesOf, digitsOf}
+use Rattle.hex.specs.Fields.{fieldAt, field}
 use Rattle.frames.specs.Lines.{linesAfter}
 use Rattle.frames.specs.Kinds.{admitFrame, runFrame, listFrame, frameOf, wellFormed, read}
 use Rattle.frames.specs.Replies.{lineOf, refusalLine, malformedLine, spareBytes, acceptedLine, placesFrom, slotLine, slotLines, endLine, admitReply, runReply, listText, reply}

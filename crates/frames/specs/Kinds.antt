@@ -5,8 +5,8 @@ use Prim.Native.Nat.{ℕ, _+_, _*_, _%_}
 use lib.Dec.{leb, eqb}
 use lib.ListN.{length}
 use Rattle.rule.specs.Places.{at, each}
-use Rattle.frames.specs.Digits.{allDigits, bytesOf}
-use Rattle.frames.specs.Fields.{fieldAt}
+use Rattle.hex.specs.Digits.{allDigits, bytesOf}
+use Rattle.hex.specs.Fields.{fieldAt}
 
 pub data Frame : Type 0 where
   -- 01: a set to admit

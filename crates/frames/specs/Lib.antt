@@ -1,5 +1,3 @@
-pub mod Digits
-pub mod Fields
 pub mod Lines
 pub mod Kinds
 pub mod Session

@@ -15,8 +15,8 @@ use Rattle.rule.specs.declared.Outcome.the-variants.{Done, Refused}
 use Rattle.rule.specs.Answers.{numberOf, Carried, nothing, place, excess, carriedBy}
 use Rattle.rule.specs.Places.{at, each}
 use Rattle.rule.specs.Outcomes.{admission, RunAfter, run as runOf, ListingAfter, listing}
-use Rattle.frames.specs.Digits.{digitsOf}
-use Rattle.frames.specs.Fields.{field}
+use Rattle.hex.specs.Digits.{digitsOf}
+use Rattle.hex.specs.Fields.{field}
 use Rattle.frames.specs.Lines.{lineFeed}
 use Rattle.frames.specs.Kinds.{Frame, admit, run, list, malformed}
 use Rattle.frames.specs.Session.{Session, noSet, inForce, fresh}

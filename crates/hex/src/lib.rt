@@ -1,0 +1,1 @@
+// Digits of hexadecimal and big-endian fields, in lent bytes.
