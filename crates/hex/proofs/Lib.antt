@@ -1,0 +1,4 @@
+pub mod Stores
+pub mod Digits
+pub mod Bytes
+pub mod Fields
