@@ -1,5 +1,6 @@
 pub mod Lines
 pub mod Kinds
+pub mod Asking
 pub mod Session
 pub mod Replies
 pub mod Transcript

@@ -37,7 +37,7 @@ placeByte (place i) = i
 placeByte (excess x) = 0xff
 
 unfoldable pub refusalLine : Refusal → List ℕ
-refusalLine r = lineOf (0x8f ∷ numberOf r ∷ placeByte (carriedBy r) ∷ [])
+refusalLine r = lineOf (0x8f ∷ field 1 (numberOf r) ++ field 1 (placeByte (carriedBy r)))
 
 -- Refusal 11
 unfoldable pub malformedLine : List ℕ
