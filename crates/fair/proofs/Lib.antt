@@ -8,4 +8,5 @@ pub mod NeverStuck
 pub mod RefusalSix
 pub mod OneChoice
 pub mod RunIsSlots
+pub mod RunFair
 pub mod Instances

@@ -53,6 +53,9 @@ pub record FairAt (es ps : List ℕ) (m t : ℕ) (ks : List ℕ) : Type 0 where
       (x .k ≡ pos (shareDown (x .e) (x .p) t)) ⊎ (x .k ≡ pos (shareUp (x .e) (x .p) t))
   -- at the end of its j-th period a task has had just e·j
   pub period-ends : (i j : ℕ) → i < length es → t ≡ at ps i * j → at ks i ≡ at es i * j
+  -- and so has every entry of the field, the spare included
+  pub entry-ends : (i j : ℕ) → i < field es ps ks t .size →
+      let x = field es ps ks t .entry i in t ≡ x .p * j → x .k ≡ pos (x .e * j)
 
 -- ---- a set whose counts have a plan
 
@@ -108,6 +111,18 @@ module _ (es ps : List ℕ) (m : ℕ) (A : AcceptedSet es ps m) (ks : List ℕ) 
       task : {x : ℕ} → countAt es ps ks t i ≡ x → at ks i ≡ x
       task d = sym (count-task es ps i l ks t) ∙ d
 
+  all-end : (i j : ℕ) → i < f .size → let x = f .entry i in t ≡ x .p * j → x .k ≡ pos (x .e * j)
+  all-end i j l =
+      let h = place es ps m A ks same t K P l in
+      subst (λ x. t ≡ x .p * j → x .k ≡ pos (x .e * j)) (sym (entry es ps m A ks same t K P i h)) (λ q. go h q)
+    where
+      go : i < size es ps → t ≡ periodAt es ps i * j → pos (countAt es ps ks t i) ≡ pos (requirementAt es ps i * j)
+      go h q =
+          let w = share-whole (requirementAt es ps i) (periodAt es ps i) j (omega (arith, fills es ps m A .light i h)) in
+          ap pos
+          (⊎-elim (λ d. d ∙ ap (shareDown (requirementAt es ps i) (periodAt es ps i)) q ∙ w .0)
+          (λ d. d ∙ ap (shareUp (requirementAt es ps i) (periodAt es ps i)) q ∙ w .1) (had i h))
+
   pub fair-at : FairAt es ps m t ks
   fair-at =
       record {
@@ -117,6 +132,7 @@ module _ (es ps : List ℕ) (m : ℕ) (A : AcceptedSet es ps m) (ks : List ℕ) 
         units-enough = A .in-use-le;
         shares = share;
         period-ends = ends;
+        entry-ends = all-end;
       }
 
 -- ---- from time 0
@@ -190,10 +206,11 @@ unfolding admissionChecks
 set-passes es ps m (and l rest) = (same-length (length es) (length ps) [] l .0, none-first rest)
 
 module _ (es ps : List ℕ) (m : ℕ) (a : Accepted) (q : admission es ps m ≡ accepted a) where
-  checks : (length ps ≡ length es) × (first (setChecks es ps m) ≡ passed)
+  -- What admission accepts has the laws of an accepted set.
+  pub checks : (length ps ≡ length es) × (first (setChecks es ps m) ≡ passed)
   checks = set-passes es ps m (accepted-passes es ps m a q)
 
-  set : AcceptedSet es ps m
+  pub set : AcceptedSet es ps m
   set = accepted-set es ps m (checks .0) (checks .1)
 
   -- At every time there is, with each slot dealt by the rule.

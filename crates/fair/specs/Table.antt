@@ -11,3 +11,8 @@ use Rattle.rule.specs.Places.{at, count}
 pub record Table (es ps : List ℕ) (m : ℕ) (runs : ℕ → ℕ → Bool) : Type 0 where
   pub slots : (u : ℕ) → count (length es) (λ i. runs i u) ≤ m
   pub served : (i j : ℕ) → i < length es → count (at ps i) (λ v. runs i (at ps i * j + v)) ≡ at es i
+
+-- The same with more than its share allowed: every task has at least e slots in every one of its periods.
+pub record AtLeast (es ps : List ℕ) (m : ℕ) (runs : ℕ → ℕ → Bool) : Type 0 where
+  pub few : (u : ℕ) → count (length es) (λ i. runs i u) ≤ m
+  pub enough : (i j : ℕ) → i < length es → at es i ≤ count (at ps i) (λ v. runs i (at ps i * j + v))

@@ -84,6 +84,12 @@ table =
     -- P2: the paper's set on 3 units
     (admit (1 ∷ 2 ∷ 5 ∷ 8 ∷ []) (3 ∷ 4 ∷ 7 ∷ 11 ∷ []) 3 gives set 3 924 (Task 335 462)) ∷
     -- P3: its slots 0, 1, 2, the spare in slots 0 and 1
+    (runFrom0 3 (1 ∷ 2 ∷ 5 ∷ 8 ∷ []) (3 ∷ 4 ∷ 7 ∷ 11 ∷ []) (0 ∷ 0 ∷ 0 ∷ 0 ∷ []) (9 ∷ 9 ∷ 9 ∷ 9 ∷ 9 ∷ 9 ∷ 9 ∷ 9 ∷ 9 ∷ 9 ∷ 9 ∷ 9 ∷ []) 3
+    gives ran (record {
+      answer = record { done = 3; end = Done };
+      counts = 1 ∷ 2 ∷ 2 ∷ 2 ∷ [];
+      log = 0 ∷ 0 ∷ 1 ∷ 1 ∷ 0 ∷ 1 ∷ 0 ∷ 1 ∷ 1 ∷ 1 ∷ 1 ∷ 0 ∷ [];
+    })) ∷
     (dealField (1 ∷ 2 ∷ 5 ∷ 8 ∷ []) (3 ∷ 4 ∷ 7 ∷ 11 ∷ []) (0 ∷ 0 ∷ 0 ∷ 0 ∷ []) 0 gives bytes (0 ∷ 0 ∷ 1 ∷ 1 ∷ 1 ∷ [])) ∷
     (dealField (1 ∷ 2 ∷ 5 ∷ 8 ∷ []) (3 ∷ 4 ∷ 7 ∷ 11 ∷ []) (0 ∷ 0 ∷ 1 ∷ 1 ∷ []) 1 gives bytes (0 ∷ 1 ∷ 0 ∷ 1 ∷ 1 ∷ [])) ∷
     (dealField (1 ∷ 2 ∷ 5 ∷ 8 ∷ []) (3 ∷ 4 ∷ 7 ∷ 11 ∷ []) (0 ∷ 1 ∷ 1 ∷ 2 ∷ []) 2 gives bytes (1 ∷ 1 ∷ 1 ∷ 0 ∷ 0 ∷ [])) ∷
