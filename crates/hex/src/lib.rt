@@ -37,7 +37,7 @@ fn is_digit(c: u8) -> bool
     c <= b'F'
 }
 
-// The byte at place i that a line's digits stand for; 0 past the last.
+// The byte at place i that a line's digits stand for; 0 past the last. Of other characters it is some number, of no use.
 pub fn byte_at(line: &[u8], i: usize) -> u32
     ensures value { λ r. ⌜ r ≡ at (bytesOf (now (line .entry))) i ⌝ }
     ensures small { λ r. ⌜ r ≤ 3400 ⌝ }

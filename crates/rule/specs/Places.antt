@@ -4,7 +4,7 @@ use mathlib.Core.List.{List, [], _∷_}
 use Prim.Native.Nat.{ℕ, zero, suc, _+_}
 use lib.ListN.{getD}
 
--- What a list of numbers has at a place; 0 past its end, where no definition below looks.
+-- What a list of numbers has at a place, and 0 past its end. No entry looks there: refusal 1 comes first.
 abbrev pub at : List ℕ → ℕ → ℕ
 at xs i = getD xs i 0
 

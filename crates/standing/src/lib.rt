@@ -1,4 +1,5 @@
-// How the places of a laid-out field stand at a time: refusals 7 and 8, and each place's standing and class.
+// How the places of a laid-out field stand at a time: refusals 7 and 8, and each place's standing and class. What is not laid out as a
+// field is refused before that, by the numbers 1 to 4.
 ghost use mathlib.Core.Bool.{true, not, cond};
 ghost use mathlib.Core.Path.{_≡_};
 ghost use Prim.Native.Nat.{ℕ, _*_, _<_, _≤_, _^_};
