@@ -4,4 +4,5 @@ pub mod Asking
 pub mod Session
 pub mod Replies
 pub mod Transcript
+pub mod Stream
 pub mod Cases
