@@ -30,9 +30,9 @@ use Rattle.hex.specs.Fields.{fieldAt, field}
 use Rattle.hex.proofs.Bytes.{length-bytes}
 use Rattle.hex.proofs.Stores.{sets-append}
 use Rattle.frames.specs.declared.Kept.{Kept}
-use Rattle.frames.specs.declared.Asked.the-variants.{Admit, Run, List as Listing, Malformed}
-use Rattle.frames.specs.Kinds.{Frame, admit, run, list, malformed, wellFormed, admitFrame, runFrame, listFrame, frameOf, read}
-use Rattle.frames.specs.Asking.{askedBy, column}
+use Rattle.reading.specs.declared.Asked.the-variants.{Admit, Run, List as Listing, Malformed}
+use Rattle.reading.specs.Kinds.{Frame, admit, run, list, malformed, wellFormed, admitFrame, runFrame, listFrame, frameOf, read}
+use Rattle.reading.specs.Asking.{askedBy, column}
 use Rattle.frames.specs.Session.{Session, noSet, inForce}
 use Rattle.frames.specs.Replies.{lineOf, refusalLine, malformedLine, slotLines, endLine, acceptedLine, admitReply, runReply, listText, reply}
 use Rattle.frames.specs.Transcript.{answerTo}

@@ -9,7 +9,7 @@ use borrow.Author.Tests.{leb-true, leb-false, le-leb, lt-leb}
 use lib.Dec.{leb, eqb}
 use lib.ListN.{length, length-append}
 use Rattle.frames.specs.Lines.{lineFeed, linesAfter, linesOf}
-use Rattle.frames.specs.Kinds.{Frame, malformed, digitsMost, wellFormed, read}
+use Rattle.reading.specs.Kinds.{Frame, malformed, digitsMost, wellFormed, read}
 use Rattle.frames.specs.Session.{Session, noSet}
 use Rattle.frames.specs.Replies.{Reply, reply}
 use Rattle.frames.specs.Transcript.{answerTo, answers, transcript}

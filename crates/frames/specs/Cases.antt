@@ -17,7 +17,7 @@ use Rattle.rule.specs.Outcomes.{admissionBy, admission, acceptance, slotBy, slo
 use Rattle.hex.specs.Digits.{allDigits, bytesOf, digitsOf}
 use Rattle.hex.specs.Fields.{fieldAt, field}
 use Rattle.frames.specs.Lines.{linesAfter}
-use Rattle.frames.specs.Kinds.{admitFrame, runFrame, listFrame, frameOf, wellFormed, read}
+use Rattle.reading.specs.Kinds.{admitFrame, runFrame, listFrame, frameOf, wellFormed, read}
 use Rattle.frames.specs.Replies.{lineOf, refusalLine, malformedLine, spareBytes, acceptedLine, placesFrom, slotLine, slotLines, endLine, admitReply, runReply, listText, reply}
 use Rattle.frames.specs.Transcript.{answerTo, answers, transcript}
 

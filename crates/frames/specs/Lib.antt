@@ -1,6 +1,4 @@
 pub mod Lines
-pub mod Kinds
-pub mod Asking
 pub mod Session
 pub mod Replies
 pub mod Transcript

@@ -18,7 +18,7 @@ use Rattle.rule.specs.Outcomes.{admission, RunAfter, run as runOf, ListingAfter
 use Rattle.hex.specs.Digits.{digitsOf}
 use Rattle.hex.specs.Fields.{field}
 use Rattle.frames.specs.Lines.{lineFeed}
-use Rattle.frames.specs.Kinds.{Frame, admit, run, list, malformed}
+use Rattle.reading.specs.Kinds.{Frame, admit, run, list, malformed}
 use Rattle.frames.specs.Session.{Session, noSet, inForce, fresh}
 
 -- The session afterwards, and what is written.

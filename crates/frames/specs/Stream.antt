@@ -6,7 +6,7 @@ use Prim.Native.Nat.{ℕ}
 use lib.Dec.{leb, eqb}
 use lib.ListN.{length}
 use Rattle.frames.specs.Lines.{lineFeed}
-use Rattle.frames.specs.Kinds.{digitsMost}
+use Rattle.reading.specs.Kinds.{digitsMost}
 use Rattle.frames.specs.Session.{Session, noSet}
 use Rattle.frames.specs.Replies.{Reply}
 use Rattle.frames.specs.Transcript.{answerTo}

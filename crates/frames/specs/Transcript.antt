@@ -2,7 +2,7 @@
 use mathlib.Core.List.{List, [], _∷_, _++_}
 use Prim.Native.Nat.{ℕ}
 use Rattle.frames.specs.Lines.{linesOf}
-use Rattle.frames.specs.Kinds.{read}
+use Rattle.reading.specs.Kinds.{read}
 use Rattle.frames.specs.Session.{Session, noSet}
 use Rattle.frames.specs.Replies.{Reply, reply}
 

@@ -1,4 +1,5 @@
 // Frames: lines of hexadecimal, and the answers to them.
+use reading::Asked;
 use rule::Accepted;
 use rule::Admission;
 use rule::Outcome;
@@ -17,115 +18,13 @@ ghost use Rattle.rule.specs.Limits.{slotsMost};
 ghost use Rattle.rule.specs.Places.{at, bit};
 ghost use Rattle.rule.specs.Outcomes.{run as runOf, listing};
 ghost use Rattle.rule.proofs.Written.{written};
-ghost use Rattle.hex.specs.Digits.{bytesOf, digitsOf};
+ghost use Rattle.hex.specs.Digits.{digitsOf};
 ghost use Rattle.hex.specs.Fields.{field};
 ghost use Rattle.frames.specs.Lines.{lineFeed};
-ghost use Rattle.frames.specs.Kinds.{wellFormed, admitFrame, runFrame, listFrame, read, run as aRun, list as aListing};
-ghost use Rattle.frames.specs.Asking.{askedBy, column as columnOf};
+ghost use Rattle.reading.specs.Kinds.{read, run as aRun, list as aListing};
+ghost use Rattle.reading.specs.Asking.{askedBy};
 ghost use Rattle.frames.specs.Replies.{placeByte, lineOf, refusalLine, malformedLine, spareBytes, acceptedLine, placesFrom, slotLine, slotLines, endLine, reply};
 ghost use Rattle.frames.specs.Keeping.{sessionOf, logMost, hasRoom, answered};
-
-// What a line asks. The records of a set to admit stay in the line.
-pub enum Asked {
-    Admit { m: u32, n: usize },
-    Run { slots: u32 },
-    List,
-    Malformed,
-}
-
-// "at most 518 digits"
-const DIGITS_MOST: usize = 518;
-
-// Is a line some frame's digits: not empty, not too long, two a byte?
-fn is_well_formed(line: &[u8]) -> bool
-    ensures { λ r. ⌜ r ≡ wellFormed (now (line .entry)) ⌝ }
-{
-    let size = line.len();
-    if size < 1 {
-        return false;
-    }
-    if size > DIGITS_MOST {
-        return false;
-    }
-    if size % 2 != 0 {
-        return false;
-    }
-    hex::all_digits(line)
-}
-
-fn asked_admit(line: &[u8]) -> Asked
-    ensures { λ r. ⌜ r ≡ askedBy (admitFrame (bytesOf (now (line .entry)))) ⌝ }
-{
-    let size = line.len() / 2;
-    if size < 3 {
-        return Asked::Malformed;
-    }
-    let n = hex::byte_at(line, 2) as usize;
-    if size != 3 + 4 * n {
-        return Asked::Malformed;
-    }
-    Asked::Admit {
-        m: hex::byte_at(line, 1),
-        n: n,
-    }
-}
-
-fn asked_run(line: &[u8]) -> Asked
-    ensures { λ r. ⌜ r ≡ askedBy (runFrame (bytesOf (now (line .entry)))) ⌝ }
-{
-    if line.len() / 2 == 3 {
-        Asked::Run {
-            slots: hex::pair_at(line, 1),
-        }
-    } else {
-        Asked::Malformed
-    }
-}
-
-fn asked_list(line: &[u8]) -> Asked
-    ensures { λ r. ⌜ r ≡ askedBy (listFrame (bytesOf (now (line .entry)))) ⌝ }
-{
-    if line.len() / 2 == 1 {
-        Asked::List
-    } else {
-        Asked::Malformed
-    }
-}
-
-// What a line asks, or that it is malformed.
-pub fn what_is_asked(line: &[u8]) -> Asked
-    ensures { λ r. ⌜ r ≡ askedBy (read (now (line .entry))) ⌝ }
-{
-    if !is_well_formed(line) {
-        return Asked::Malformed;
-    }
-    let kind = hex::byte_at(line, 0);
-    if kind == 1 {
-        return asked_admit(line);
-    }
-    if kind == 2 {
-        return asked_run(line);
-    }
-    if kind == 3 {
-        return asked_list(line);
-    }
-    Asked::Malformed
-}
-
-// The requirements of a set to admit stand from byte 3 on, its periods from byte 5 on, each four bytes after the one before.
-pub fn column(line: &[u8], from: u8) -> [u32; 64]
-    ensures { λ r. ⌜ r ≡ columnOf (now (line .entry)) from ⌝ }
-{
-    let mut numbers = [0; 64];
-    let mut i = 0;
-    let mut place = from as usize;
-    while i < 64 {
-        numbers[i] = hex::pair_at(line, place);
-        place += 4;
-        i += 1;
-    }
-    numbers
-}
 
 // The lines of an answer. Each is stored as far as there is room, and the place after it is that of the whole line, so
 // that a caller can tell. Places are bounded only so that no sum of them is too large for a usize.
@@ -536,8 +435,8 @@ fn admitted(
     ensures text { λ r. ⌜ now (out .exit) ≡ sets (now (out .entry)) 0 (reply (sessionOf kept (now (requirements .entry)) (now (periods .entry)) (now (counts .entry))) (read (now (line .entry))) .text) ⌝ }
     ensures size { λ r. ⌜ r .size ≡ length (reply (sessionOf kept (now (requirements .entry)) (now (periods .entry)) (now (counts .entry))) (read (now (line .entry))) .text) ⌝ }
 {
-    let es = column(line, 3);
-    let ps = column(line, 5);
+    let es = reading::column(line, 3);
+    let ps = reading::column(line, 5);
     match admission::admit(&es[..n], &ps[..n], m) {
         Admission::Refused(refusal) => Answered {
             kept: kept,
@@ -641,7 +540,7 @@ pub fn answer(
             size: 0,
         };
     }
-    match what_is_asked(line) {
+    match reading::what_is_asked(line) {
         Asked::Admit { m, n } => admitted(kept, requirements, periods, counts, line, m, n, out),
         Asked::Run { slots } => answer_run(kept, requirements, periods, counts, log, slots, out),
         Asked::List => Answered {

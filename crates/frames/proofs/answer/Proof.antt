@@ -5,7 +5,7 @@ use borrow.Author.Needs.{needs}
 use borrow.Author.Tests.{not-true, not-false}
 use lib.ListN.{length}
 use lib.Seq.{sets}
-use Rattle.frames.specs.Kinds.{read}
+use Rattle.reading.specs.Kinds.{read}
 use Rattle.frames.specs.Replies.{reply}
 use Rattle.frames.specs.Keeping.{sessionOf}
 use Rattle.frames.proofs.Answering.{asked-admit, asked-run, asked-list, asked-malformed, list-keeps, malformed-reply, roomy, with-room, without-room}

@@ -1,10 +1,10 @@
 -- `asked_admit` meets its contract: the frame's own n decides its length. Assumes nothing.
-use Rattle.frames.proofs.Reading.{admit-short, admit-ragged, admit-asked}
+use Rattle.reading.proofs.Reading.{admit-short, admit-ragged, admit-asked}
 use borrow.Author.Needs.{needs}
-use Rattle.frames.proofs.asked_admit.Statement.{statement}
-use Rattle.frames.proofs.asked_admit.Tie as tie
-use Rattle.frames.proofs.asked_admit.Reads as reads
-use Rattle.frames.proofs.asked_admit.Lts as lts
+use Rattle.reading.proofs.asked_admit.Statement.{statement}
+use Rattle.reading.proofs.asked_admit.Tie as tie
+use Rattle.reading.proofs.asked_admit.Reads as reads
+use Rattle.reading.proofs.asked_admit.Lts as lts
 use Rattle.hex.proofs.byte_at.Reads as byte-at-reads
 
 -- src/lib.rt:40:9

@@ -5,9 +5,9 @@ use lib.ListN.{length}
 use Rattle.rule.specs.Places.{each}
 use Rattle.hex.specs.Digits.{bytesOf}
 use Rattle.hex.specs.Fields.{fieldAt}
-use Rattle.frames.specs.declared.Asked.{Asked}
-use Rattle.frames.specs.declared.Asked.the-variants.{Admit, Run, List as Listing, Malformed}
-use Rattle.frames.specs.Kinds.{Frame, admit, run, list, malformed}
+use Rattle.reading.specs.declared.Asked.{Asked}
+use Rattle.reading.specs.declared.Asked.the-variants.{Admit, Run, List as Listing, Malformed}
+use Rattle.reading.specs.Kinds.{Frame, admit, run, list, malformed}
 
 unfoldable pub askedBy : Frame → Asked
 askedBy (admit m es ps) = Admit m (length es)

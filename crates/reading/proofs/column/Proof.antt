@@ -9,11 +9,11 @@ use lib.ListN.{length, set, replicate}
 use Rattle.rule.proofs.Written.{written, written-none, written-set, written-all}
 use Rattle.hex.specs.Digits.{bytesOf}
 use Rattle.hex.specs.Fields.{fieldAt}
-use Rattle.frames.specs.Asking.{column}
-use Rattle.frames.proofs.column.Statement.{statement}
-use Rattle.frames.proofs.column.Tie as tie
-use Rattle.frames.proofs.column.Reads as reads
-use Rattle.frames.proofs.column.Lts as lts
+use Rattle.reading.specs.Asking.{column}
+use Rattle.reading.proofs.column.Statement.{statement}
+use Rattle.reading.proofs.column.Tie as tie
+use Rattle.reading.proofs.column.Reads as reads
+use Rattle.reading.proofs.column.Lts as lts
 use Rattle.hex.proofs.pair_at.Reads as pair-at-reads
 
 abbrev Inv-loop : tie.InvT-loop

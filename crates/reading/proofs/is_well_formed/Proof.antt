@@ -1,11 +1,11 @@
 -- `is_well_formed` meets its contract, test by test. Assumes nothing.
 use mathlib.Core.Path.{_∙_}
-use Rattle.frames.proofs.Reading.{empty-line, long-line, odd-line, even-line}
+use Rattle.reading.proofs.Reading.{empty-line, long-line, odd-line, even-line}
 use borrow.Author.Needs.{needs}
-use Rattle.frames.proofs.is_well_formed.Statement.{statement}
-use Rattle.frames.proofs.is_well_formed.Tie as tie
-use Rattle.frames.proofs.is_well_formed.Reads as reads
-use Rattle.frames.proofs.is_well_formed.Lts as lts
+use Rattle.reading.proofs.is_well_formed.Statement.{statement}
+use Rattle.reading.proofs.is_well_formed.Tie as tie
+use Rattle.reading.proofs.is_well_formed.Reads as reads
+use Rattle.reading.proofs.is_well_formed.Lts as lts
 use Rattle.hex.proofs.all_digits.Reads as all-digits-reads
 
 -- src/lib.rt:24:9

@@ -12,10 +12,10 @@ use Rattle.rule.proofs.Places.{length-each}
 use Rattle.hex.specs.Digits.{allDigits, bytesOf}
 use Rattle.hex.specs.Fields.{fieldAt}
 use Rattle.hex.proofs.Bytes.{length-bytes}
-use Rattle.frames.specs.declared.Asked.{Asked}
-use Rattle.frames.specs.declared.Asked.the-variants.{Admit, Run, List as Listing, Malformed}
-use Rattle.frames.specs.Kinds.{wellFormed, admitFrame, runFrame, listFrame, frameOf, read}
-use Rattle.frames.specs.Asking.{askedBy}
+use Rattle.reading.specs.declared.Asked.{Asked}
+use Rattle.reading.specs.declared.Asked.the-variants.{Admit, Run, List as Listing, Malformed}
+use Rattle.reading.specs.Kinds.{wellFormed, admitFrame, runFrame, listFrame, frameOf, read}
+use Rattle.reading.specs.Asking.{askedBy}
 
 -- ---- well-formed lines
 

@@ -1,9 +1,9 @@
 -- `asked_list` meets its contract: a listing is one byte. Assumes nothing.
-use Rattle.frames.proofs.Reading.{list-asked, list-malformed}
-use Rattle.frames.proofs.asked_list.Statement.{statement}
-use Rattle.frames.proofs.asked_list.Tie as tie
-use Rattle.frames.proofs.asked_list.Reads as reads
-use Rattle.frames.proofs.asked_list.Lts as lts
+use Rattle.reading.proofs.Reading.{list-asked, list-malformed}
+use Rattle.reading.proofs.asked_list.Statement.{statement}
+use Rattle.reading.proofs.asked_list.Tie as tie
+use Rattle.reading.proofs.asked_list.Reads as reads
+use Rattle.reading.proofs.asked_list.Lts as lts
 
 -- src/lib.rt:64:1
 returns : tie.Need-returns

@@ -1,12 +1,12 @@
 -- `asked_run` meets its contract: a run is three bytes. Assumes nothing.
 use mathlib.Core.Path.{ap, _∙_}
-use Rattle.frames.specs.declared.Asked.the-variants.{Run}
-use Rattle.frames.proofs.Reading.{run-asked, run-malformed}
+use Rattle.reading.specs.declared.Asked.the-variants.{Run}
+use Rattle.reading.proofs.Reading.{run-asked, run-malformed}
 use borrow.Author.Needs.{needs}
-use Rattle.frames.proofs.asked_run.Statement.{statement}
-use Rattle.frames.proofs.asked_run.Tie as tie
-use Rattle.frames.proofs.asked_run.Reads as reads
-use Rattle.frames.proofs.asked_run.Lts as lts
+use Rattle.reading.proofs.asked_run.Statement.{statement}
+use Rattle.reading.proofs.asked_run.Tie as tie
+use Rattle.reading.proofs.asked_run.Reads as reads
+use Rattle.reading.proofs.asked_run.Lts as lts
 use Rattle.hex.proofs.pair_at.Reads as pair-at-reads
 
 -- src/lib.rt:57:20

@@ -1,16 +1,16 @@
 -- `what_is_asked` meets its contract, kind by kind. Assumes nothing.
 use mathlib.Core.Path.{sym, _∙_}
 use borrow.Author.Tests.{not-true, not-false}
-use Rattle.frames.proofs.Reading.{not-well-formed, kind-1, kind-2, kind-3, kind-unknown}
+use Rattle.reading.proofs.Reading.{not-well-formed, kind-1, kind-2, kind-3, kind-unknown}
 use borrow.Author.Needs.{needs}
-use Rattle.frames.proofs.what_is_asked.Statement.{statement}
-use Rattle.frames.proofs.what_is_asked.Tie as tie
-use Rattle.frames.proofs.what_is_asked.Reads as reads
-use Rattle.frames.proofs.what_is_asked.Lts as lts
-use Rattle.frames.proofs.asked_admit.Reads as asked-admit-reads
-use Rattle.frames.proofs.asked_list.Reads as asked-list-reads
-use Rattle.frames.proofs.asked_run.Reads as asked-run-reads
-use Rattle.frames.proofs.is_well_formed.Reads as is-well-formed-reads
+use Rattle.reading.proofs.what_is_asked.Statement.{statement}
+use Rattle.reading.proofs.what_is_asked.Tie as tie
+use Rattle.reading.proofs.what_is_asked.Reads as reads
+use Rattle.reading.proofs.what_is_asked.Lts as lts
+use Rattle.reading.proofs.asked_admit.Reads as asked-admit-reads
+use Rattle.reading.proofs.asked_list.Reads as asked-list-reads
+use Rattle.reading.proofs.asked_run.Reads as asked-run-reads
+use Rattle.reading.proofs.is_well_formed.Reads as is-well-formed-reads
 use Rattle.hex.proofs.byte_at.Reads as byte-at-reads
 
 -- src/lib.rt:78:9
