@@ -9,10 +9,10 @@ use native.Mathlib.Omega.{arith}
 use borrow.Author.Tests.{eqb-true, eq-eqb, ne-eqb, le-leb, lt-leb, lt-ltb, le-ltb}
 use lib.Dec.{eqb, leb, ltb}
 use lib.ListN.{length}
-use Rattle.number.specs.declared.Multiple.{Multiple}
-use Rattle.number.specs.declared.Multiple.the-variants.{At, Above}
-use Rattle.number.specs.Multiple.{lcmAll, within as limited}
-use Rattle.number.proofs.Limit.{at-tells, above-tells}
+use Rattle.numbers.specs.declared.Multiple.{Multiple}
+use Rattle.numbers.specs.declared.Multiple.the-variants.{At, Above}
+use Rattle.numbers.specs.Multiple.{lcmAll, within as limited}
+use Rattle.numbers.proofs.Limit.{at-tells, above-tells}
 use Rattle.rule.specs.declared.Accepted.{Accepted}
 use Rattle.rule.specs.declared.Refusal.{Refusal}
 use Rattle.rule.specs.declared.Refusal.the-variants.{Multiple as tooLarge, Load}

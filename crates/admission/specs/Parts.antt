@@ -2,8 +2,8 @@
 use mathlib.Core.Bool.{cond}
 use Prim.Native.Nat.{ℕ, _*_, _-_}
 use lib.Dec.{ltb}
-use Rattle.number.specs.Divide.{lowestTerms}
-use Rattle.number.specs.Round.{roundUp}
+use Rattle.numbers.specs.Divide.{lowestTerms}
+use Rattle.numbers.specs.Round.{roundUp}
 use Rattle.rule.specs.declared.Accepted.{Accepted}
 use Rattle.rule.specs.declared.Spare.{Spare}
 use Rattle.rule.specs.declared.Spare.the-variants.{Nobody, Task}

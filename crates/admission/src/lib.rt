@@ -9,7 +9,7 @@ ghost use Rattle.rule.specs.Refusals.{invalidPlace, first, multiples, loads};
 ghost use Rattle.rule.specs.Outcomes.{admission, admissionBy};
 ghost use Rattle.rule.proofs.Sets.{ValidSet};
 ghost use Rattle.admission.specs.Parts.{acceptanceOf, spareOf};
-use number::Multiple;
+use numbers::Multiple;
 use rule::Accepted;
 use rule::Admission;
 use rule::Refusal;
@@ -60,7 +60,7 @@ fn admit_valid(requirements: &[u32], periods: &[u32], m: u32) -> Admission
     requires { ⌜ m ≤ unitsMost ⌝ }
     ensures { λ r. ⌜ r ≡ admissionBy (first (multiples (now (periods .entry)) ∷ loads (now (requirements .entry)) (now (periods .entry)) m ∷ [])) (now (requirements .entry)) (now (periods .entry)) ⌝ }
 {
-    let Multiple::At(multiple) = number::least_multiple(periods, rule::MULTIPLE_MOST) else {
+    let Multiple::At(multiple) = numbers::least_multiple(periods, rule::MULTIPLE_MOST) else {
         return Admission::Refused(Refusal::Multiple);
     };
     let load = load_of(requirements, periods, multiple);
@@ -115,7 +115,7 @@ fn spare_of(room: u32, multiple: u32) -> Spare
     if room == 0 {
         return Spare::Nobody;
     }
-    let weight = number::lowest_terms(room, multiple);
+    let weight = numbers::lowest_terms(room, multiple);
     Spare::Task {
         e: weight.above,
         p: weight.below,

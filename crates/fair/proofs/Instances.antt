@@ -5,9 +5,9 @@ use mathlib.Core.Bool.{Bool}
 use mathlib.Core.List.{List, [], _∷_}
 use Prim.Native.Nat.{ℕ, _-_, _*_, _≤_, zero-le}
 use lib.ListN.{length}
-use Rattle.number.specs.Divide.{euclid, gcd, lowestTerms}
-use Rattle.number.specs.Multiple.{lcm, lcmAll}
-use Rattle.number.specs.Round.{roundUp}
+use Rattle.numbers.specs.Divide.{euclid, gcd, lowestTerms}
+use Rattle.numbers.specs.Multiple.{lcm, lcmAll}
+use Rattle.numbers.specs.Round.{roundUp}
 use Rattle.rule.specs.declared.Spare.{Spare}
 use Rattle.rule.specs.declared.Spare.the-variants.{Nobody, Task}
 use Rattle.rule.specs.declared.Accepted.{Accepted}

@@ -13,8 +13,8 @@ use borrow.Author.Tests.{lt-ltb, le-ltb, lt-leb, eq-eqb}
 use lib.Dec.{ltb, leb, eqb}
 use lib.IntN.{pos}
 use lib.ListN.{length}
-use Rattle.number.specs.Round.{roundUp}
-use Rattle.number.proofs.Quotient.{round-up-exact}
+use Rattle.numbers.specs.Round.{roundUp}
+use Rattle.numbers.proofs.Quotient.{round-up-exact}
 use Rattle.rule.specs.declared.Spare.{Spare}
 use Rattle.rule.specs.declared.Spare.the-variants.{Nobody, Task}
 use Rattle.rule.specs.declared.Accepted.{Accepted}

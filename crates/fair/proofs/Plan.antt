@@ -6,7 +6,7 @@ use mathlib.Core.Logic.{_⊎_, inl, inr, ⊎-elim, _≢_}
 use Prim.Native.Nat.{ℕ, zero, suc, _+_, _-_, _*_, _≤_, _<_}
 use native.Mathlib.Nat.{eq-or-lt-of-le, eq-zero-or-pos, lt-of-not-le, le-refl, le-of-mul-le-mul-right, lt-of-mul-lt-mul-right, mul-le-mul-left, mul-le-mul-right}
 use native.Mathlib.Omega.{arith}
-use Rattle.number.proofs.Quotient.{le-of-products, lt-of-products}
+use Rattle.numbers.proofs.Quotient.{le-of-products, lt-of-products}
 use Rattle.rule.specs.declared.Order.{Order}
 use Rattle.rule.specs.declared.Order.the-variants.{First}
 use Rattle.rule.specs.Places.{sum}

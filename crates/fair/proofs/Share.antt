@@ -5,7 +5,7 @@ use mathlib.Core.Logic.{_≢_}
 use Prim.Native.Nat.{ℕ, zero, suc, _+_, _-_, _*_, _/_, _%_, _≤_, _<_}
 use native.Mathlib.Nat.{mul-le-mul-right, le-of-mul-le-mul-left, mul-left-comm, mul-div-cancel-left, dvd-mul-right}
 use native.Mathlib.Omega.{arith}
-use Rattle.number.proofs.Quotient.{le-of-products, down-and-remainder, down-greatest, up-least, up-le-suc-down, up-le-next, round-up-exact}
+use Rattle.numbers.proofs.Quotient.{le-of-products, down-and-remainder, down-greatest, up-least, up-le-suc-down, up-le-next, round-up-exact}
 use Rattle.rule.specs.Task.{symbol}
 use Rattle.rule.proofs.Symbols.{symbol-by-remainder, minus-below, plus-above, not-minus-above, not-plus-below}
 use Rattle.fair.specs.Share.{shareDown, shareUp}

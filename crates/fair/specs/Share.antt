@@ -1,6 +1,6 @@
 -- A task's share: "at every time each task has had e·t/p, rounded down or up".
 use Prim.Native.Nat.{ℕ, _*_, _/_}
-use Rattle.number.specs.Round.{roundUp}
+use Rattle.numbers.specs.Round.{roundUp}
 
 unfoldable pub shareDown : ℕ → ℕ → ℕ → ℕ
 shareDown e p t = e * t / p

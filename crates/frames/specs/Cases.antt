@@ -3,9 +3,9 @@
 use mathlib.Core.Path.{_≡_, refl}
 use mathlib.Core.List.{List, [], _∷_, _++_, map}
 use Prim.Native.Nat.{ℕ, zero, suc}
-use Rattle.number.specs.Divide.{euclid, gcd, lowestTerms}
-use Rattle.number.specs.Multiple.{lcm, lcmAll}
-use Rattle.number.specs.Round.{roundUp}
+use Rattle.numbers.specs.Divide.{euclid, gcd, lowestTerms}
+use Rattle.numbers.specs.Multiple.{lcm, lcmAll}
+use Rattle.numbers.specs.Round.{roundUp}
 use Rattle.rule.specs.Answers.{mark}
 use Rattle.rule.specs.Limits.{boundedBy}
 use Rattle.rule.specs.Places.{sum, lowest, each}

@@ -9,10 +9,10 @@ use native.Mathlib.Omega.{arith}
 use borrow.Author.Tests.{leb-true, ltb-true, ltb-false, not-false}
 use lib.Dec.{ltb, leb}
 use lib.ListN.{length}
-use Rattle.number.specs.Divide.{gcd, lowestTerms}
-use Rattle.number.proofs.Common.{each-divides-lcm-all, lcm-all-pos}
-use Rattle.number.proofs.Euclid.{lowest-same-value, lowest-above-pos, lowest-below-le, lowest-below-divides, lowest-lt}
-use Rattle.number.proofs.Quotient.{le-of-products, round-up-least}
+use Rattle.numbers.specs.Divide.{gcd, lowestTerms}
+use Rattle.numbers.proofs.Common.{each-divides-lcm-all, lcm-all-pos}
+use Rattle.numbers.proofs.Euclid.{lowest-same-value, lowest-above-pos, lowest-below-le, lowest-below-divides, lowest-lt}
+use Rattle.numbers.proofs.Quotient.{le-of-products, round-up-least}
 use Rattle.rule.specs.declared.Spare.{Spare}
 use Rattle.rule.specs.declared.Spare.the-variants.{Nobody, Task}
 use Rattle.rule.specs.Limits.{within, valid, tasksMost, unitsMost, periodMost, multipleMost}

@@ -20,9 +20,9 @@ use Rattle.rule.specs.Sets.{multiple, load, unitsInUse, room, spare, tas
 use Rattle.rule.specs.Slot.{tnegru, urgent, contending, urgents, notTnegrus, precedes, contendersBefore, chosen}
 use Rattle.rule.specs.Refusals.{first, differ, invalidPlace, unfairAt, unfairPlace, setChecks, admissionChecks, slotChecks, runChecks, comparisonChecks}
 use Rattle.rule.specs.Outcomes.{admissionBy, admission, acceptance, comparisonBy, comparison, SlotAfter, slotBy, slot, runsAt, countsAfter, bytesAfter, RunAfter, runBy, run, slotsFrom, afterSlot}
-use Rattle.number.specs.Divide.{euclid, gcd, lowestTerms}
-use Rattle.number.specs.Multiple.{lcm, lcmAll}
-use Rattle.number.specs.Round.{roundUp}
+use Rattle.numbers.specs.Divide.{euclid, gcd, lowestTerms}
+use Rattle.numbers.specs.Multiple.{lcm, lcmAll}
+use Rattle.numbers.specs.Round.{roundUp}
 
 -- What a case asks: the requirements, the periods, then what the entry takes besides.
 pub data Question : Type 0 where

@@ -5,9 +5,9 @@ use Prim.Native.Nat.{ℕ, suc, _*_, _/_, _-_}
 use lib.Dec.{ltb}
 use lib.IntN.{pos, _-ℤ_}
 use lib.ListN.{length}
-use Rattle.number.specs.Divide.{gcd, lowestTerms}
-use Rattle.number.specs.Multiple.{lcmAll}
-use Rattle.number.specs.Round.{roundUp}
+use Rattle.numbers.specs.Divide.{gcd, lowestTerms}
+use Rattle.numbers.specs.Multiple.{lcmAll}
+use Rattle.numbers.specs.Round.{roundUp}
 use Rattle.rule.specs.declared.Spare.{Spare}
 use Rattle.rule.specs.declared.Spare.the-variants.{Nobody, Task}
 use Rattle.rule.specs.Places.{at, sum}

@@ -1,8 +1,8 @@
 -- Each line computes its part of the definition. M·L is from the load to less than L above it, so it fits and the room is no less than 0.
 use native.Mathlib.Omega.{arith}
 use borrow.Author.Needs.{needs}
-use Rattle.number.specs.Round.{roundUp}
-use Rattle.number.proofs.Quotient.{round-up-least}
+use Rattle.numbers.specs.Round.{roundUp}
+use Rattle.numbers.proofs.Quotient.{round-up-least}
 use Rattle.admission.specs.Parts.{acceptanceOf}
 use Rattle.admission.proofs.accept.Statement.{statement}
 use Rattle.admission.proofs.accept.Tie as tie

@@ -4,9 +4,9 @@ use mathlib.Core.List.{List, [], _∷_}
 use Prim.Native.Nat.{ℕ, _*_, _/_, _∣_, _<_}
 use lib.Dec.{leb}
 use lib.ListN.{length, getD}
-use Rattle.number.specs.Divide.{gcd}
-use Rattle.number.specs.declared.Multiple.{Multiple}
-use Rattle.number.specs.declared.Multiple.the-variants.{At, Above}
+use Rattle.numbers.specs.Divide.{gcd}
+use Rattle.numbers.specs.declared.Multiple.{Multiple}
+use Rattle.numbers.specs.declared.Multiple.the-variants.{At, Above}
 
 unfoldable pub lcm : ℕ → ℕ → ℕ
 lcm a b = a / gcd a b * b

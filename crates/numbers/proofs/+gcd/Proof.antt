@@ -5,12 +5,12 @@ use native.Mathlib.Nat.{mod-lt}
 use native.Mathlib.Omega.{arith}
 use borrow.Fn.Kinds.{In}
 use borrow.Fn.PlainCycle.{Measures, is, falls, and}
-use Rattle.number.proofs.Euclid.{gcd-is-gcd, gcd-step, gcd-zero}
-use Rattle.number.proofs.+gcd.{statement}
-use Rattle.number.proofs.+gcd.Tie.{close}
-use Rattle.number.proofs.gcd.Reads as gcd
-use Rattle.number.proofs.gcd.Kinds as gcd-kinds
-use Rattle.number.proofs.+gcd.Lts-gcd as gcd-lts
+use Rattle.numbers.proofs.Euclid.{gcd-is-gcd, gcd-step, gcd-zero}
+use Rattle.numbers.proofs.+gcd.{statement}
+use Rattle.numbers.proofs.+gcd.Tie.{close}
+use Rattle.numbers.proofs.gcd.Reads as gcd
+use Rattle.numbers.proofs.gcd.Kinds as gcd-kinds
+use Rattle.numbers.proofs.+gcd.Lts-gcd as gcd-lts
 
 abbrev μ-gcd : Measures 0 gcd-kinds.ps ℕ
 μ-gcd κs a = a .1 .0

@@ -1,6 +1,6 @@
 -- Greatest common divisor and lowest terms. Assumes nothing.
 use Prim.Native.Nat.{ℕ, zero, suc, _/_, _%_, _∣_}
-use Rattle.number.specs.declared.Fraction.{Fraction}
+use Rattle.numbers.specs.declared.Fraction.{Fraction}
 
 -- Euclid's rule in at most n steps: while b is not 0, go on with b and the remainder of a by b.
 unfoldable pub euclid : ℕ → ℕ → ℕ → ℕ

@@ -8,9 +8,9 @@ use native.Mathlib.Nat.{dvd-refl, dvd-trans, dvd-zero, one-dvd, dvd-mul-left, dv
 use native.Mathlib.Omega.{arith}
 use lib.ListN.{length, getD, drop}
 use lib.Seq.{drop-cons}
-use Rattle.number.specs.Divide.{gcd}
-use Rattle.number.specs.Multiple.{lcm, lcmAll, IsLcmAll}
-use Rattle.number.proofs.Euclid.{gcd-is-gcd, gcd-scaled, lowest-same-value, lowest-above-pos}
+use Rattle.numbers.specs.Divide.{gcd}
+use Rattle.numbers.specs.Multiple.{lcm, lcmAll, IsLcmAll}
+use Rattle.numbers.proofs.Euclid.{gcd-is-gcd, gcd-scaled, lowest-same-value, lowest-above-pos}
 
 left-divides-lcm : (a b : ℕ) → a ∣ lcm a b
 unfolding lcm

@@ -6,11 +6,11 @@ use native.Mathlib.Omega.{arith}
 use borrow.Author.Needs.{needs}
 use lib.ListN.{length, drop, getD}
 use lib.Seq.{drop-length}
-use Rattle.number.specs.Multiple.{lcm, lcmAll}
-use Rattle.number.proofs.Common.{lcm-all-from, rest-le-lcm-all}
-use Rattle.number.proofs.Limit.{within-is-at, within-is-above, at-tells, above-tells}
-use Rattle.number.proofs.least_multiple.Statement.{statement}
-use Rattle.number.proofs.least_multiple.Tie as tie
+use Rattle.numbers.specs.Multiple.{lcm, lcmAll}
+use Rattle.numbers.proofs.Common.{lcm-all-from, rest-le-lcm-all}
+use Rattle.numbers.proofs.Limit.{within-is-at, within-is-above, at-tells, above-tells}
+use Rattle.numbers.proofs.least_multiple.Statement.{statement}
+use Rattle.numbers.proofs.least_multiple.Tie as tie
 
 abbrev Inv-loop : tie.InvT-loop
 Inv-loop periods most multiple₀ i₀ multiple i =

@@ -4,7 +4,7 @@ use mathlib.Core.Path.{_≡_, sym, ap, _∙_}
 use Prim.Native.Nat.{ℕ, zero, suc, _*_, _/_, _%_, _<_, _≤_, _∣_}
 use native.Mathlib.Nat.{dvd-refl, dvd-zero, dvd-mod-iff, dvd-sub, dvd-mul-right, dvd-mul-right-of-dvd, dvd-antisymm, pos-of-dvd-of-pos, div-mul-cancel, mul-div-cancel', div-le-self, lt-of-mul-lt-mul-right, mod-eq-sub-mul-div, mod-lt, mul-assoc, mul-sub, one-mul, zero-mul}
 use native.Mathlib.Omega.{arith}
-use Rattle.number.specs.Divide.{euclid, gcd, IsGcd}
+use Rattle.numbers.specs.Divide.{euclid, gcd, IsGcd}
 
 scaled-rest : (a b k d : ℕ) → d ∣ k * a → d ∣ k * b → d ∣ k * (a % b)
 scaled-rest a b k d p q = rw (mod-eq-sub-mul-div, mul-sub, ← mul-assoc) (dvd-sub d p (dvd-mul-right-of-dvd d q (a / b)))

@@ -5,9 +5,9 @@ use native.Mathlib.Omega.{arith}
 use borrow.Author.Count.{below-more}
 use borrow.Author.Needs.{needs}
 use lib.ListN.{length, getD}
-use Rattle.number.proofs.Common.{lcm-all-zero}
-use Rattle.number.proofs.has_zero.Statement.{statement}
-use Rattle.number.proofs.has_zero.Tie as tie
+use Rattle.numbers.proofs.Common.{lcm-all-zero}
+use Rattle.numbers.proofs.has_zero.Statement.{statement}
+use Rattle.numbers.proofs.has_zero.Tie as tie
 
 abbrev Inv-loop : tie.InvT-loop
 Inv-loop numbers i₀ i = (i ≤ length numbers) × ((k : ℕ) → k < i → 0 < getD numbers k 0)

@@ -3,8 +3,8 @@ ghost use mathlib.Core.Bool.{true, false};
 ghost use mathlib.Core.Path.{_≡_};
 ghost use Prim.Native.Nat.{ℕ, _<_};
 ghost use lib.ListN.{length, getD};
-ghost use Rattle.number.specs.Divide.{gcd as gcdOf, IsGcd, lowestTerms};
-ghost use Rattle.number.specs.Multiple.{lcm, lcmAll, within};
+ghost use Rattle.numbers.specs.Divide.{gcd as gcdOf, IsGcd, lowestTerms};
+ghost use Rattle.numbers.specs.Multiple.{lcm, lcmAll, within};
 
 // A fraction, above over below.
 pub struct Fraction {

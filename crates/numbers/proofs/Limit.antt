@@ -6,8 +6,8 @@ use Prim.Native.Nat.{ℕ, _≤_, _<_}
 use native.Mathlib.Omega.{arith}
 use borrow.Author.Tests.{leb-true, leb-false, le-leb, lt-leb}
 use lib.Dec.{leb}
-use Rattle.number.specs.Multiple.{within}
-use Rattle.number.specs.declared.Multiple.the-variants.{At, Above}
+use Rattle.numbers.specs.Multiple.{within}
+use Rattle.numbers.specs.declared.Multiple.the-variants.{At, Above}
 
 module _ (most l : ℕ) where
   pub within-is-at : l ≤ most → within most l ≡ At l

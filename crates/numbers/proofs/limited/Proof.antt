@@ -2,9 +2,9 @@
 use mathlib.Core.Path.{sym}
 use native.Mathlib.Omega.{arith}
 use borrow.Author.Needs.{needs}
-use Rattle.number.proofs.Limit.{within-is-at, within-is-above}
-use Rattle.number.proofs.limited.Statement.{statement}
-use Rattle.number.proofs.limited.Tie as tie
+use Rattle.numbers.proofs.Limit.{within-is-at, within-is-above}
+use Rattle.numbers.proofs.limited.Statement.{statement}
+use Rattle.numbers.proofs.limited.Tie as tie
 
 cast-t6 : tie.Need-cast-t6
 cast-t6 c = search needs

@@ -3,10 +3,10 @@ use Prim.Native.Nat.{_/_, _≤_}
 use native.Mathlib.Nat.{div-le-self, mul-le-mul}
 use native.Mathlib.Omega.{arith}
 use borrow.Author.Needs.{needs}
-use Rattle.number.specs.Multiple.{lcm}
-use Rattle.number.proofs.Euclid.{gcd-pos-left}
-use Rattle.number.proofs.multiple_with.Statement.{statement}
-use Rattle.number.proofs.multiple_with.Tie as tie
+use Rattle.numbers.specs.Multiple.{lcm}
+use Rattle.numbers.proofs.Euclid.{gcd-pos-left}
+use Rattle.numbers.proofs.multiple_with.Statement.{statement}
+use Rattle.numbers.proofs.multiple_with.Tie as tie
 
 gcd-requires : tie.Need-gcd-requires
 gcd-requires c κs = search needs

@@ -1,9 +1,9 @@
 -- The code divides both parts by their greatest common divisor; where that is 0, both quotients are 0 by definition.
 use native.Mathlib.Nat.{div-zero}
 use borrow.Author.Needs.{needs}
-use Rattle.number.specs.Divide.{lowestTerms}
-use Rattle.number.proofs.lowest_terms.Statement.{statement}
-use Rattle.number.proofs.lowest_terms.Tie as tie
+use Rattle.numbers.specs.Divide.{lowestTerms}
+use Rattle.numbers.proofs.lowest_terms.Statement.{statement}
+use Rattle.numbers.proofs.lowest_terms.Tie as tie
 
 gcd-requires : tie.Need-gcd-requires
 gcd-requires c κs = search needs

@@ -4,7 +4,7 @@ use mathlib.Core.Path.{_≡_, sym, _∙_}
 use Prim.Native.Nat.{ℕ, suc, _+_, _-_, _*_, _/_, _%_, _≤_, _<_, _∣_}
 use native.Mathlib.Nat.{div-add-mod, le-of-suc-le-suc, lt-of-mul-lt-mul-left, mod-add-mod, mod-eq-of-lt, mod-eq-sub-mod, mod-lt, mul-div-cancel', mul-suc}
 use native.Mathlib.Omega.{arith}
-use Rattle.number.specs.Round.{roundUp}
+use Rattle.numbers.specs.Round.{roundUp}
 
 pub le-of-products : (p a b : ℕ) → p * a < p * b + p → a ≤ b
 le-of-products p a b h = le-of-suc-le-suc (lt-of-mul-lt-mul-left p {m = a} {n = suc b} (omega arith))
