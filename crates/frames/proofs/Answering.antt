@@ -380,28 +380,3 @@ unfolding column
 copied line k n es into into′ is few room stored =
     let wide : length es ≡ 64 = ap length is ∙ length-each 64 (λ i. fieldAt 2 (bytesOf line) (k + 4 * i)) in
     ap (take n) stored ∙ take-copied n es into (omega arith) (omega arith)
-
--- ---- room
-
-parts : (a b c d e : Bool) → (a && b && c && d && e) ≡ true → (a ≡ true) × (b ≡ true) × (c ≡ true) × (d ≡ true) × (e ≡ true)
-parts true true true true e q = (refl, refl, refl, refl, q)
-parts true true true false e q = absurd (let z : _≡_ {A = ℕ} 0 1 = cc in omega arith)
-parts true true false d e q = absurd (let z : _≡_ {A = ℕ} 0 1 = cc in omega arith)
-parts true false c d e q = absurd (let z : _≡_ {A = ℕ} 0 1 = cc in omega arith)
-parts false b c d e q = absurd (let z : _≡_ {A = ℕ} 0 1 = cc in omega arith)
-
-pub roomy : (n a b c d : ℕ) → (leb n 64 && leb 64 a && leb 64 b && leb 64 c && leb logMost d) ≡ true → (n ≤ 64) × (64 ≤ a) × (64 ≤ b) × (64 ≤ c) × (logMost ≤ d)
-roomy n a b c d q =
-    let p = parts (leb n 64) (leb 64 a) (leb 64 b) (leb 64 c) (leb logMost d) q in
-    (leb-true n 64 (p .0), leb-true 64 a (p .1), leb-true 64 b (p .2), leb-true 64 c (p .3), leb-true logMost d (p .4))
-
-module _ (k : Kept) (es ps ks log line : List ℕ) (w : Session) where
-  pub with-room : (leb (k .n) 64 && leb 64 (length es) && leb 64 (length ps) && leb 64 (length ks) && leb logMost (length log)) ≡ true
-      → reply w (read line) ≡ answered (hasRoom k es ps ks log) w line
-  unfolding hasRoom answered answerTo
-  with-room q = rw q
-
-  pub without-room : (leb (k .n) 64 && leb 64 (length es) && leb 64 (length ps) && leb 64 (length ks) && leb logMost (length log)) ≡ false
-      → record { session = w; text = [] } ≡ answered (hasRoom k es ps ks log) w line
-  unfolding hasRoom answered
-  without-room q = rw q

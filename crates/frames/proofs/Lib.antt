@@ -1,3 +1,5 @@
 pub mod Writing
 pub mod Answering
+pub mod Room
 pub mod Stream
+pub mod Sizes

@@ -20,6 +20,10 @@ sessionOf k es ps ks =
 abbrev pub logMost : ℕ
 logMost = 65536
 
+-- The longest answer: 1,024 slots of 64 tasks that all run, and the line of a refusal.
+abbrev pub answerMost : ℕ
+answerMost = 144391
+
 -- Room for 64 tasks in each list, and for the longest log.
 unfoldable pub hasRoom : Kept → List ℕ → List ℕ → List ℕ → List ℕ → Bool
 hasRoom k es ps ks log = leb (k .n) 64 && leb 64 (length es) && leb 64 (length ps) && leb 64 (length ks) && leb logMost (length log)

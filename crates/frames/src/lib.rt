@@ -374,6 +374,7 @@ fn ran(
     ensures session { λ r. ⌜ sessionOf (r .kept) (now (requirements .entry)) (now (periods .entry)) (now (counts .exit)) ≡ reply (sessionOf kept (now (requirements .entry)) (now (periods .entry)) (now (counts .entry))) (aRun slots) .session ⌝ }
     ensures text { λ r. ⌜ now (out .exit) ≡ sets (now (out .entry)) 0 (reply (sessionOf kept (now (requirements .entry)) (now (periods .entry)) (now (counts .entry))) (aRun slots) .text) ⌝ }
     ensures size { λ r. ⌜ r .size ≡ length (reply (sessionOf kept (now (requirements .entry)) (now (periods .entry)) (now (counts .entry))) (aRun slots) .text) ⌝ }
+    ensures tasks { λ r. ⌜ r .kept .n ≤ 64 ⌝ }
 {
     let n = kept.n;
     let m = kept.m;
@@ -430,10 +431,11 @@ fn admitted(
     out: &mut [u8],
 ) -> Answered
     requires { ⌜ (askedBy (read (now line)) ≡ Asked.Admit m n) × (n ≤ 64) ⌝ }
-    requires { ⌜ (64 ≤ length (now requirements)) × (64 ≤ length (now periods)) × (64 ≤ length (now counts)) ⌝ }
+    requires { ⌜ (64 ≤ length (now requirements)) × (64 ≤ length (now periods)) × (64 ≤ length (now counts)) × (kept .n ≤ 64) ⌝ }
     ensures session { λ r. ⌜ sessionOf (r .kept) (now (requirements .exit)) (now (periods .exit)) (now (counts .exit)) ≡ reply (sessionOf kept (now (requirements .entry)) (now (periods .entry)) (now (counts .entry))) (read (now (line .entry))) .session ⌝ }
     ensures text { λ r. ⌜ now (out .exit) ≡ sets (now (out .entry)) 0 (reply (sessionOf kept (now (requirements .entry)) (now (periods .entry)) (now (counts .entry))) (read (now (line .entry))) .text) ⌝ }
     ensures size { λ r. ⌜ r .size ≡ length (reply (sessionOf kept (now (requirements .entry)) (now (periods .entry)) (now (counts .entry))) (read (now (line .entry))) .text) ⌝ }
+    ensures tasks { λ r. ⌜ r .kept .n ≤ 64 ⌝ }
 {
     let es = reading::column(line, 3);
     let ps = reading::column(line, 5);
@@ -469,6 +471,7 @@ fn answer_run(
     ensures session { λ r. ⌜ sessionOf (r .kept) (now (requirements .entry)) (now (periods .entry)) (now (counts .exit)) ≡ reply (sessionOf kept (now (requirements .entry)) (now (periods .entry)) (now (counts .entry))) (aRun slots) .session ⌝ }
     ensures text { λ r. ⌜ now (out .exit) ≡ sets (now (out .entry)) 0 (reply (sessionOf kept (now (requirements .entry)) (now (periods .entry)) (now (counts .entry))) (aRun slots) .text) ⌝ }
     ensures size { λ r. ⌜ r .size ≡ length (reply (sessionOf kept (now (requirements .entry)) (now (periods .entry)) (now (counts .entry))) (aRun slots) .text) ⌝ }
+    ensures tasks { λ r. ⌜ r .kept .n ≤ 64 ⌝ }
 {
     if kept.n == 0 {
         return Answered {
@@ -532,6 +535,7 @@ pub fn answer(
     ensures session { λ r. ⌜ sessionOf (r .kept) (now (requirements .exit)) (now (periods .exit)) (now (counts .exit)) ≡ answered (hasRoom kept (now (requirements .entry)) (now (periods .entry)) (now (counts .entry)) (now (log .entry))) (sessionOf kept (now (requirements .entry)) (now (periods .entry)) (now (counts .entry))) (now (line .entry)) .session ⌝ }
     ensures text { λ r. ⌜ now (out .exit) ≡ sets (now (out .entry)) 0 (answered (hasRoom kept (now (requirements .entry)) (now (periods .entry)) (now (counts .entry)) (now (log .entry))) (sessionOf kept (now (requirements .entry)) (now (periods .entry)) (now (counts .entry))) (now (line .entry)) .text) ⌝ }
     ensures size { λ r. ⌜ r .size ≡ length (answered (hasRoom kept (now (requirements .entry)) (now (periods .entry)) (now (counts .entry)) (now (log .entry))) (sessionOf kept (now (requirements .entry)) (now (periods .entry)) (now (counts .entry))) (now (line .entry)) .text) ⌝ }
+    ensures room { λ r. ⌜ hasRoom (r .kept) (now (requirements .exit)) (now (periods .exit)) (now (counts .exit)) (now (log .exit)) ≡ hasRoom kept (now (requirements .entry)) (now (periods .entry)) (now (counts .entry)) (now (log .entry)) ⌝ }
 {
     let tasks = kept.n;
     if !has_room(tasks, requirements, periods, counts, log) {

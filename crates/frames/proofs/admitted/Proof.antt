@@ -71,7 +71,7 @@ returns c =
     let es = c .before .before .before .before .before .before .before .before .before .before .before in
     let x = c .before .before .before .before .before .before .before .before .before .before .before .before .before .before .before .before .before in
     let both = set-refused (x .args .line .now) (x .args .m) (x .args .n) (x .pre .0 .0) (es .column .result) (ps .column2 .result) (es .column .ensures) (ps .column2 .ensures) (sessionOf (x .args .kept) (x .args .requirements .now) (x .args .periods .now) (x .args .counts .now)) _ (sym (d .admit .ensures) ∙ told .refusal .given .1) in
-    (both .0, (p .put-refusal .ensures .0 ∙ ap (sets (x .args .out .now) 0) (both .1), p .put-refusal .ensures .1 ∙ zero-add _ ∙ ap length (both .1)))
+    (both .0, (p .put-refusal .ensures .0 ∙ ap (sets (x .args .out .now) 0) (both .1), (p .put-refusal .ensures .1 ∙ zero-add _ ∙ ap length (both .1), x .pre .1 .3)))
 
 same-length-2 : tie.Need-same-length-2
 same-length-2 c = search needs
@@ -103,7 +103,7 @@ returns-2 c =
     let room : x .args .n ≤ length (x .args .counts .now) = omega (arith, x .pre .0 .1, x .pre .1 .2) in
     let three = ap (take (x .args .n)) (zeros .clear-counts .ensures) ∙ take-written (x .args .n) (λ i. 0) (x .args .counts .now) room in (
       set-session (x .args .line .now) (x .args .m) (x .args .n) (x .pre .0 .0) (es .column .result) (ps .column2 .result) (es .column .ensures) (ps .column2 .ensures) (sessionOf (x .args .kept) (x .args .requirements .now) (x .args .periods .now) (x .args .counts .now)) _ q (first .copy .last .1 .0) (second .copy2 .last .1 .0) (zeros .clear-counts .last .0) one two three,
-      (p .put-accepted .ensures .0 ∙ ap (sets (x .args .out .now) 0) text, p .put-accepted .ensures .1 ∙ ap length text),
+      (p .put-accepted .ensures .0 ∙ ap (sets (x .args .out .now) 0) text, (p .put-accepted .ensures .1 ∙ ap length text, x .pre .0 .1)),
     )
 
 pub admitted-spec : {M : Type 1} → statement M

@@ -1,5 +1,5 @@
 -- `answer` meets its contract: without room nothing is done, and with room each arm is the answer to the frame that the line is. Assumes nothing.
-use mathlib.Core.Path.{sym, ap, _∙_}
+use mathlib.Core.Path.{refl, sym, ap, _∙_}
 use Prim.Native.Nat.{_≤_}
 use borrow.Author.Needs.{needs}
 use borrow.Author.Tests.{not-true, not-false}
@@ -8,7 +8,8 @@ use lib.Seq.{sets}
 use Rattle.reading.specs.Kinds.{read}
 use Rattle.frames.specs.Replies.{reply}
 use Rattle.frames.specs.Keeping.{sessionOf}
-use Rattle.frames.proofs.Answering.{asked-admit, asked-run, asked-list, asked-malformed, list-keeps, malformed-reply, roomy, with-room, without-room}
+use Rattle.frames.proofs.Answering.{asked-admit, asked-run, asked-list, asked-malformed, list-keeps, malformed-reply}
+use Rattle.frames.proofs.Room.{roomy, with-room, without-room, room-stays}
 use Rattle.frames.proofs.answer.Statement.{statement}
 use Rattle.frames.proofs.answer.Tie as tie
 
@@ -33,7 +34,7 @@ returns c =
     let was = sessionOf (x .args .kept) (x .args .requirements .now) (x .args .periods .now) (x .args .counts .now) in
     let q = sym (c .before .has-room .ensures) ∙ not-true _ (c .if1 .taken) in
     let none = without-room (x .args .kept) (x .args .requirements .now) (x .args .periods .now) (x .args .counts .now) (x .args .log .now) (x .args .line .now) was q in
-    (ap (λ r. r .session) none, (ap (λ r. sets (x .args .out .now) 0 (r .text)) none, ap (λ r. length (r .text)) none))
+    (ap (λ r. r .session) none, (ap (λ r. sets (x .args .out .now) 0 (r .text)) none, (ap (λ r. length (r .text)) none, refl)))
 
 what-is-asked-requires : tie.Need-what-is-asked-requires
 what-is-asked-requires c κs = search needs
@@ -50,7 +51,7 @@ admitted-requires c κs =
     let w = c .before .before .before .before .before .before .before in
     let f = seen w in
     let asks = sym (w .what-is-asked .ensures) ∙ c .before .before .before .before .before .m .given .1 in
-    ((asks, asked-admit _ _ _ asks .1), (f .1, f .2, f .3))
+    ((asks, asked-admit _ _ _ asks .1), (f .1, f .2, f .3, f .0))
 
 enum-known-slots : tie.Need-enum-known-slots
 enum-known-slots c = search needs
@@ -97,7 +98,7 @@ returns-2 c =
     let x = w .before .before .before .before .before .before .before .before .before .before .before .before .before in
     let was = sessionOf (x .args .kept) (x .args .requirements .now) (x .args .periods .now) (x .args .counts .now) in
     let room = with-room (x .args .kept) (x .args .requirements .now) (x .args .periods .now) (x .args .counts .now) (x .args .log .now) (x .args .line .now) was (sym (w .before .before .has-room .ensures) ∙ not-false _ (w .before .if1 .left)) in
-    (p .admitted .ensures .0 ∙ ap (λ r. r .session) room, (p .admitted .ensures .1 .0 ∙ ap (λ r. sets (x .args .out .now) 0 (r .text)) room, p .admitted .ensures .1 .1 ∙ ap (λ r. length (r .text)) room))
+    (p .admitted .ensures .0 ∙ ap (λ r. r .session) room, (p .admitted .ensures .1 .0 ∙ ap (λ r. sets (x .args .out .now) 0 (r .text)) room, (p .admitted .ensures .1 .1 .0 ∙ ap (λ r. length (r .text)) room, room-stays _ _ _ _ _ _ _ _ _ _ (seen w .0) (p .admitted .ensures .1 .1 .1) (search needs) (search needs) (search needs) (search needs))))
 
 same-length-10 : tie.Need-same-length-10
 same-length-10 c = search needs
@@ -123,7 +124,7 @@ returns-3 c =
     let was = sessionOf (x .args .kept) (x .args .requirements .now) (x .args .periods .now) (x .args .counts .now) in
     let room = with-room (x .args .kept) (x .args .requirements .now) (x .args .periods .now) (x .args .counts .now) (x .args .log .now) (x .args .line .now) was (sym (w .before .before .has-room .ensures) ∙ not-false _ (w .before .if1 .left)) in
     let asks = asked-run (read (x .args .line .now)) _ (sym (w .what-is-asked .ensures) ∙ told .slots .given .1) in
-    (p .answer-run .ensures .0 ∙ ap (λ f. reply was f .session) (sym asks) ∙ ap (λ r. r .session) room, (p .answer-run .ensures .1 .0 ∙ ap (λ f. sets (x .args .out .now) 0 (reply was f .text)) (sym asks) ∙ ap (λ r. sets (x .args .out .now) 0 (r .text)) room, p .answer-run .ensures .1 .1 ∙ ap (λ f. length (reply was f .text)) (sym asks) ∙ ap (λ r. length (r .text)) room))
+    (p .answer-run .ensures .0 ∙ ap (λ f. reply was f .session) (sym asks) ∙ ap (λ r. r .session) room, (p .answer-run .ensures .1 .0 ∙ ap (λ f. sets (x .args .out .now) 0 (reply was f .text)) (sym asks) ∙ ap (λ r. sets (x .args .out .now) 0 (r .text)) room, (p .answer-run .ensures .1 .1 .0 ∙ ap (λ f. length (reply was f .text)) (sym asks) ∙ ap (λ r. length (r .text)) room, room-stays _ _ _ _ _ _ _ _ _ _ (seen w .0) (p .answer-run .ensures .1 .1 .1) (search needs) (search needs) (search needs) (search needs))))
 
 same-length-15 : tie.Need-same-length-15
 same-length-15 c = search needs
@@ -149,7 +150,7 @@ returns-4 c =
     let was = sessionOf (x .args .kept) (x .args .requirements .now) (x .args .periods .now) (x .args .counts .now) in
     let room = with-room (x .args .kept) (x .args .requirements .now) (x .args .periods .now) (x .args .counts .now) (x .args .log .now) (x .args .line .now) was (sym (w .before .before .has-room .ensures) ∙ not-false _ (w .before .if1 .left)) in
     let asks = asked-list (read (x .args .line .now)) (sym (w .what-is-asked .ensures) ∙ told .enum-told .given .1) in
-    (sym (list-keeps was) ∙ ap (λ f. reply was f .session) (sym asks) ∙ ap (λ r. r .session) room, (p .answer-list .ensures .0 ∙ ap (λ f. sets (x .args .out .now) 0 (reply was f .text)) (sym asks) ∙ ap (λ r. sets (x .args .out .now) 0 (r .text)) room, p .answer-list .ensures .1 ∙ ap (λ f. length (reply was f .text)) (sym asks) ∙ ap (λ r. length (r .text)) room))
+    (sym (list-keeps was) ∙ ap (λ f. reply was f .session) (sym asks) ∙ ap (λ r. r .session) room, (p .answer-list .ensures .0 ∙ ap (λ f. sets (x .args .out .now) 0 (reply was f .text)) (sym asks) ∙ ap (λ r. sets (x .args .out .now) 0 (r .text)) room, (p .answer-list .ensures .1 ∙ ap (λ f. length (reply was f .text)) (sym asks) ∙ ap (λ r. length (r .text)) room, room-stays _ _ _ _ _ _ _ _ _ _ (seen w .0) (seen w .0) (search needs) (search needs) (search needs) (search needs))))
 
 same-length-20 : tie.Need-same-length-20
 same-length-20 c = search needs
@@ -176,7 +177,7 @@ returns-5 c =
     let room = with-room (x .args .kept) (x .args .requirements .now) (x .args .periods .now) (x .args .counts .now) (x .args .log .now) (x .args .line .now) was (sym (w .before .before .has-room .ensures) ∙ not-false _ (w .before .if1 .left)) in
     let asks = asked-malformed (read (x .args .line .now)) (sym (w .what-is-asked .ensures) ∙ told .enum-told2 .given .1) in
     let said = malformed-reply was in
-    (sym (said .0) ∙ ap (λ f. reply was f .session) (sym asks) ∙ ap (λ r. r .session) room, (p .put-malformed .ensures .0 ∙ ap (sets (x .args .out .now) 0) (sym (said .1)) ∙ ap (λ f. sets (x .args .out .now) 0 (reply was f .text)) (sym asks) ∙ ap (λ r. sets (x .args .out .now) 0 (r .text)) room, p .put-malformed .ensures .1 ∙ ap length (sym (said .1)) ∙ ap (λ f. length (reply was f .text)) (sym asks) ∙ ap (λ r. length (r .text)) room))
+    (sym (said .0) ∙ ap (λ f. reply was f .session) (sym asks) ∙ ap (λ r. r .session) room, (p .put-malformed .ensures .0 ∙ ap (sets (x .args .out .now) 0) (sym (said .1)) ∙ ap (λ f. sets (x .args .out .now) 0 (reply was f .text)) (sym asks) ∙ ap (λ r. sets (x .args .out .now) 0 (r .text)) room, (p .put-malformed .ensures .1 ∙ ap length (sym (said .1)) ∙ ap (λ f. length (reply was f .text)) (sym asks) ∙ ap (λ r. length (r .text)) room, room-stays _ _ _ _ _ _ _ _ _ _ (seen w .0) (seen w .0) (search needs) (search needs) (search needs) (search needs))))
 
 pub answer-spec : {M : Type 1} → statement M
 answer-spec =

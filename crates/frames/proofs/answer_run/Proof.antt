@@ -17,7 +17,7 @@ returns : tie.Need-returns
 returns c =
     let p = c .before .before in
     let none = c .before .before .before .before .if1 .taken in
-    (run-none-session _ _ _ _ _ none, (p .put-malformed .ensures .0 ∙ ap (sets _ 0) (run-none-text _ _ _ _ _ none), p .put-malformed .ensures .1 ∙ ap length (run-none-text _ _ _ _ _ none)))
+    (run-none-session _ _ _ _ _ none, (p .put-malformed .ensures .0 ∙ ap (sets _ 0) (run-none-text _ _ _ _ _ none), (p .put-malformed .ensures .1 ∙ ap length (run-none-text _ _ _ _ _ none), search needs)))
 
 ran-requires : tie.Need-ran-requires
 ran-requires c κs = search needs

@@ -71,10 +71,10 @@ returns c =
     let z = r .before .before .before .before .before .before .before in
     let l = r .before .before .before .before .before in
     let x = r .before .before .before .before .before .before .before .before .before .before .before .before .before in
-    let room : z .log-size .result ≤ length (x .args .log .now) = omega (arith, z .log-size .ensures .1, x .pre .1 .3) in (
+    let room : z .log-size .result ≤ length (x .args .log .now) = omega (arith, z .log-size .ensures .1, x .pre .1 .3) in
+    let said = ran-text (x .args .kept) (x .args .requirements .now) (x .args .periods .now) (x .args .counts .now) (x .args .log .now) (x .args .slots) (x .pre .0 .0) (x .pre .1 .0) (z .log-size .result) (z .log-size .ensures .0) room (l .clear .last .0) (l .clear .ensures) (r .run-part .result) (r .run-part .ensures .0) _ (r .run-part .ensures .1 .1) (x .args .out .now) (w .put-slots .last .0) (p .put-end .last .0) (w .put-slots .result) (p .put-end .result) (w .put-slots .ensures .0) (w .put-slots .ensures .1 .0) (p .put-end .ensures .0) (p .put-end .ensures .1) in (
       ran-session (x .args .kept) (x .args .requirements .now) (x .args .periods .now) (x .args .counts .now) (x .args .log .now) (x .args .slots) (x .pre .0 .0) (x .pre .1 .0) (z .log-size .result) (z .log-size .ensures .0) room (l .clear .last .0) (l .clear .ensures) (r .run-part .result) (r .run-part .ensures .0) (r .run-part .last .1 .1 .1 .0) (r .run-part .ensures .1 .0),
-      ran-text (x .args .kept) (x .args .requirements .now) (x .args .periods .now) (x .args .counts .now) (x .args .log .now) (x .args .slots) (x .pre .0 .0) (x .pre .1 .0) (z .log-size .result) (z .log-size .ensures .0) room (l .clear .last .0) (l .clear .ensures) (r .run-part .result) (r .run-part .ensures .0) _ (r .run-part .ensures .1 .1) (x .args .out .now) (w .put-slots .last .0) (p .put-end .last .0) (w .put-slots .result) (p .put-end .result)
-          (w .put-slots .ensures .0) (w .put-slots .ensures .1 .0) (p .put-end .ensures .0) (p .put-end .ensures .1),
+      (said .0, (said .1, x .pre .0 .1)),
     )
 
 pub ran-spec : {M : Type 1} → statement M
