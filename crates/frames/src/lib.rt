@@ -503,7 +503,7 @@ fn answer_list(
 }
 
 // Is there room for 64 tasks in each list, and for the longest log?
-fn has_room(n: usize, requirements: &[u32], periods: &[u32], counts: &[u32], log: &[u8]) -> bool
+pub fn has_room(n: usize, requirements: &[u32], periods: &[u32], counts: &[u32], log: &[u8]) -> bool
     ensures { λ r. ⌜ r ≡ (leb n 64 && leb 64 (length (now (requirements .entry))) && leb 64 (length (now (periods .entry))) && leb 64 (length (now (counts .entry))) && leb logMost (length (now (log .entry)))) ⌝ }
 {
     if n > rule::TASKS_MOST {

@@ -1,0 +1,4 @@
+pub mod Taking
+pub mod Pieces
+pub mod Rooms
+pub mod Steps
