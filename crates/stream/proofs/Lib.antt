@@ -2,3 +2,4 @@ pub mod Taking
 pub mod Pieces
 pub mod Rooms
 pub mod Steps
+pub mod Served

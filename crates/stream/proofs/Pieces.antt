@@ -23,6 +23,11 @@ use Rattle.stream.proofs.Taking.{asFed, step-feed, step-reach, reach-st
 
 -- ---- what is taken
 
+reach-onward : (room : ℕ) (was : Session) (line piece : List ℕ) → answerMost ≤ room → 0 < length piece → 0 < reach room was line piece
+unfolding reach
+reach-onward room was line [] h some = absurd (omega arith)
+reach-onward room was line (b ∷ bs) h some = rw (le-leb answerMost room h) (omega arith)
+
 module _ (b : Bool) (room : ℕ) (was : Session) (line piece : List ℕ) where
   pub none-taken : b ≡ false → 0 ≡ taken b room was line piece
   unfolding taken
@@ -31,6 +36,11 @@ module _ (b : Bool) (room : ℕ) (was : Session) (line piece : List ℕ) where
   pub some-taken : b ≡ true → reach room was line piece ≡ taken b room was line piece
   unfolding taken
   some-taken q = rw q
+
+  -- A byte at least is taken where there is one.
+  pub taken-onward : b ≡ true → answerMost ≤ room → 0 < length piece → 0 < taken b room was line piece
+  unfolding taken
+  taken-onward q h some = rw q (reach-onward room was line piece h some)
 
 -- ---- the lines so far
 

@@ -28,6 +28,14 @@ answered-roomy : (b : Bool) (was : Session) (line : List ℕ) → b ≡ true →
 unfolding answered
 answered-roomy b was line q = rw q
 
+-- An answer, by its size as the code tells it, is no longer than the longest one.
+pub answer-fits : (k : Kept) (es ps ks log line : List ℕ) → hasRoom k es ps ks log ≡ true → (size : ℕ)
+    → size ≡ length (answered (hasRoom k es ps ks log) (sessionOf k es ps ks) line .text) → size ≤ answerMost
+answer-fits k es ps ks log line room size is =
+    let said = ap (λ r. length (r .text)) (answered-roomy (hasRoom k es ps ks log) (sessionOf k es ps ks) line room) in
+    let small = answer-small k es ps ks line (few-tasks k es ps ks log room) in
+    omega arith
+
 module _ (k : Kept) (es ps ks log line bs : List ℕ) where
   pub step-answers : (l : List ℕ) → hasRoom k es ps ks log ≡ true → scan line bs .ended ≡ true → l ≡ scan line bs .line
       → (answered (hasRoom k es ps ks log) (sessionOf k es ps ks) l .session ≡ step (sessionOf k es ps ks) line bs .session)

@@ -258,6 +258,7 @@ pub fn finish(
     ensures session { λ r. ⌜ sessionOf (r .kept) (now (requirements .exit)) (now (periods .exit)) (now (counts .exit)) ≡ endedBy (isRoomy waiting (now (requirements .entry)) (now (periods .entry)) (now (counts .entry)) (now (log .entry)) (now (line .entry))) (sessionAt waiting (now (requirements .entry)) (now (periods .entry)) (now (counts .entry))) (lineAt waiting (now (line .entry))) .session ⌝ }
     ensures text { λ r. ⌜ now (out .exit) ≡ sets (now (out .entry)) 0 (endedBy (isRoomy waiting (now (requirements .entry)) (now (periods .entry)) (now (counts .entry)) (now (log .entry)) (now (line .entry))) (sessionAt waiting (now (requirements .entry)) (now (periods .entry)) (now (counts .entry))) (lineAt waiting (now (line .entry))) .text) ⌝ }
     ensures size { λ r. ⌜ r .size ≡ length (endedBy (isRoomy waiting (now (requirements .entry)) (now (periods .entry)) (now (counts .entry)) (now (log .entry)) (now (line .entry))) (sessionAt waiting (now (requirements .entry)) (now (periods .entry)) (now (counts .entry))) (lineAt waiting (now (line .entry))) .text) ⌝ }
+    ensures small { λ r. ⌜ r .size ≤ answerMost ⌝ }
 {
     let kept = waiting.kept;
     let held = waiting.held;

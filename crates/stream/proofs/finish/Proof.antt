@@ -7,7 +7,7 @@ use lib.ListN.{length}
 use lib.Seq.{sets, length-take-le}
 use Rattle.stream.specs.Pieces.{sessionAt, lineAt, isRoomy}
 use Rattle.stream.proofs.Rooms.{roomy-parts}
-use Rattle.stream.proofs.Steps.{ended-none, ended-no-room, ended-line}
+use Rattle.stream.proofs.Steps.{answer-fits, ended-none, ended-no-room, ended-line}
 use Rattle.stream.proofs.finish.Statement.{statement}
 use Rattle.stream.proofs.finish.Tie as tie
 
@@ -15,7 +15,7 @@ returns : tie.Need-returns
 returns c =
     let a = c .before .before .before .before .before .before .before .before .args in
     let none = ended-none (isRoomy (a .waiting) (a .requirements .now) (a .periods .now) (a .counts .now) (a .log .now) (a .line .now)) (sessionAt (a .waiting) (a .requirements .now) (a .periods .now) (a .counts .now)) (a .line .now) (a .waiting .held) (c .if1 .taken) in
-    (ap (λ r. r .session) none, (ap (λ r. sets (a .out .now) 0 (r .text)) none, ap (λ r. length (r .text)) none))
+    (ap (λ r. r .session) none, (ap (λ r. sets (a .out .now) 0 (r .text)) none, (ap (λ r. length (r .text)) none, omega arith)))
 
 is-roomy-requires : tie.Need-is-roomy-requires
 is-roomy-requires c κs = search needs
@@ -36,7 +36,7 @@ returns-2 : tie.Need-returns-2
 returns-2 c =
     let a = c .before .before .before .before .before .before .before .before .before .before .before .before .before .before .args in
     let none = ended-no-room (isRoomy (a .waiting) (a .requirements .now) (a .periods .now) (a .counts .now) (a .log .now) (a .line .now)) (sessionAt (a .waiting) (a .requirements .now) (a .periods .now) (a .counts .now)) (lineAt (a .waiting) (a .line .now)) (sym (c .before .is-roomy .ensures) ∙ not-true _ (c .if2 .taken)) in
-    (ap (λ r. r .session) none, (ap (λ r. sets (a .out .now) 0 (r .text)) none, ap (λ r. length (r .text)) none))
+    (ap (λ r. r .session) none, (ap (λ r. sets (a .out .now) 0 (r .text)) none, (ap (λ r. length (r .text)) none, omega arith)))
 
 slice-aggregate-answer : tie.Need-slice-aggregate-answer
 slice-aggregate-answer c =
@@ -70,7 +70,8 @@ returns-3 c =
     let room = roomy-parts (a .waiting) (a .requirements .now) (a .periods .now) (a .counts .now) (a .log .now) (a .line .now) roomy in
     let some = c .before .before .before .before .before .before .before .before .before .before .before .before .before .before .before .before .before .before .before .before .before .before .before .if1 .left in
     let said = ended-line (isRoomy (a .waiting) (a .requirements .now) (a .periods .now) (a .counts .now) (a .log .now) (a .line .now)) (a .waiting .kept) (a .requirements .now) (a .periods .now) (a .counts .now) (a .log .now) (a .line .now) (a .waiting .held) roomy (room .0) (omega (arith, some)) (omega (arith, room .1, room .2)) in
-    (r .ensures .0 ∙ ap (λ x. x .session) said, (r .ensures .1 .0 ∙ ap (λ x. sets (a .out .now) 0 (x .text)) said, r .ensures .1 .1 .0 ∙ ap (λ x. length (x .text)) said))
+    let small = answer-fits (a .waiting .kept) (a .requirements .now) (a .periods .now) (a .counts .now) (a .log .now) (lineAt (a .waiting) (a .line .now)) (room .0) _ (r .ensures .1 .1 .0) in
+    (r .ensures .0 ∙ ap (λ x. x .session) said, (r .ensures .1 .0 ∙ ap (λ x. sets (a .out .now) 0 (x .text)) said, (r .ensures .1 .1 .0 ∙ ap (λ x. length (x .text)) said, small)))
 
 pub finish-spec : {M : Type 1} → statement M
 finish-spec =
