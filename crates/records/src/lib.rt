@@ -13,7 +13,8 @@ ghost use Rattle.records.specs.declared.Task.{Task};
 ghost use Rattle.records.specs.Door.{requirementsOf, periodsOf, countsOf, withCounts};
 ghost use Rattle.records.specs.Apart.{atMost64, nothingOf, withTask, apartOf, Whole, Dealing};
 
-// A record: the requirement, the period and the count of a task.
+// A record: the requirement, the period and the count of a task. A host program lends records too, so that its layout is C's.
+#[repr(C)]
 pub struct Task {
     pub e: u32,
     pub p: u32,

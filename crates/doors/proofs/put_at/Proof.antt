@@ -1,0 +1,24 @@
+-- Past the end `set` changes nothing.
+use mathlib.Core.Path.{sym}
+use borrow.Author.Needs.{needs}
+use lib.Seq.{set-out}
+use Rattle.doors.proofs.put_at.Statement.{statement}
+use Rattle.doors.proofs.put_at.Tie as tie
+
+mul-answer : tie.Need-mul-answer
+mul-answer c = search needs
+
+slice-write-answer : tie.Need-slice-write-answer
+slice-write-answer c = search needs
+
+same-length : tie.Need-same-length
+same-length c = search needs
+
+returns : tie.Need-returns
+returns c = search needs
+
+returns-2 : tie.Need-returns-2
+returns-2 c = sym (set-out _ _ _ (c .if1 .left))
+
+pub put-at-spec : {M : Type 1} → statement M
+put-at-spec = tie.close (tie.spec mul-answer slice-write-answer same-length returns returns-2)
