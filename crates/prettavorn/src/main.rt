@@ -19,6 +19,50 @@ struct Turn {
     ended: bool,
 }
 
+// What is kept after a part of a piece, the place after that part, and whether its answers could be written.
+struct Part {
+    waiting: Waiting,
+    at: usize,
+    written: bool,
+}
+
+// Lines of a piece from a place on, as many as have room for their answers, and the answers written.
+fn serve_part(
+    waiting: Waiting,
+    requirements: &mut [u32],
+    periods: &mut [u32],
+    counts: &mut [u32],
+    log: &mut [u8],
+    line: &mut [u8],
+    piece: &[u8],
+    out: &mut [u8],
+    at: usize,
+) -> Part
+    requires { ⌜ isRoomy waiting (now requirements) (now periods) (now counts) (now log) (now line) ≡ true ⌝ }
+    requires { ⌜ (at < length (now piece)) × (answerMost ≤ length (now out)) ⌝ }
+    ensures roomy { λ r. ⌜ isRoomy (r .waiting) (now (requirements .exit)) (now (periods .exit)) (now (counts .exit)) (now (log .exit)) (now (line .exit)) ≡ true ⌝ }
+    ensures onward { λ r. ⌜ (at < r .at) × (r .at ≤ length (now (piece .entry))) ⌝ }
+{
+    let fed = stream::feed(
+        waiting,
+        requirements,
+        periods,
+        counts,
+        log,
+        line,
+        &piece[at..],
+        out,
+    );
+    let size = fed.size;
+    let written = io::write_all(OUTPUT, &out[..size]);
+    let kept = fed.waiting;
+    Part {
+        waiting: kept,
+        at: at + fed.at,
+        written: written,
+    }
+}
+
 // Every line of a piece is answered, and the answers written, before any more input is asked for. A write that fails ends the program.
 fn serve(
     waiting: Waiting,
@@ -37,26 +81,26 @@ fn serve(
     let mut kept = waiting;
     let mut at = 0;
     while at < piece.len() {
-        let fed = stream::feed(
+        let part = serve_part(
             kept,
             requirements,
             periods,
             counts,
             log,
             line,
-            &piece[at..],
+            piece,
             out,
+            at,
         );
-        kept = fed.waiting;
-        let size = fed.size;
-        if !io::write_all(OUTPUT, &out[..size]) {
+        kept = part.waiting;
+        at = part.at;
+        if !part.written {
             return Turn {
                 waiting: kept,
                 more: false,
                 ended: false,
             };
         }
-        at += fed.at;
     }
     Turn {
         waiting: kept,
@@ -115,32 +159,41 @@ fn rounds(
     requires { ⌜ isRoomy waiting (now requirements) (now periods) (now counts) (now log) (now line) ≡ true ⌝ }
     requires { ⌜ answerMost ≤ length (now out) ⌝ }
 {
-    let mut turn = Turn {
-        waiting: waiting,
-        more: true,
-        ended: false,
-    };
+    let mut kept = waiting;
     let mut turns = u64::MAX;
     while turns > 0 {
-        turn = one_read(
-            turn.waiting,
-            requirements,
-            periods,
-            counts,
-            log,
-            line,
-            piece,
-            out,
-        );
+        let turn = one_read(kept, requirements, periods, counts, log, line, piece, out);
         if !turn.more {
             return turn;
         }
+        kept = turn.waiting;
         turns -= 1;
     }
-    turn
+    Turn {
+        waiting: kept,
+        more: false,
+        ended: false,
+    }
 }
 
-// The whole input; at its end the last line is answered too, if it lacks its line feed.
+// The input's end: the last line is answered too, if it lacks its line feed.
+fn finish(
+    waiting: Waiting,
+    requirements: &mut [u32],
+    periods: &mut [u32],
+    counts: &mut [u32],
+    log: &mut [u8],
+    line: &[u8],
+    out: &mut [u8],
+)
+    requires { ⌜ answerMost ≤ length (now out) ⌝ }
+{
+    let last = stream::finish(waiting, requirements, periods, counts, log, line, out);
+    let size = last.size;
+    io::write_all(OUTPUT, &out[..size]);
+}
+
+// The whole input.
 fn pump(
     requirements: &mut [u32],
     periods: &mut [u32],
@@ -159,20 +212,26 @@ fn pump(
     };
     let turn = rounds(start, requirements, periods, counts, log, line, piece, out);
     if turn.ended {
-        let last = stream::finish(turn.waiting, requirements, periods, counts, log, line, out);
-        let size = last.size;
-        io::write_all(OUTPUT, &out[..size]);
+        let kept = turn.waiting;
+        finish(kept, requirements, periods, counts, log, line, out);
     }
+}
+
+// Room for answers: the longest one, and as much again or nearly, so that short ones are written many at a time.
+fn answers() -> [u8; 262144]
+    ensures { λ r. ⌜ 262144 ≡ length r ⌝ }
+{
+    [0; 262144]
 }
 
 fn main() {
     let mut requirements = [0u32; 64];
     let mut periods = [0u32; 64];
     let mut counts = [0u32; 64];
-    let mut log = [0u8; 65536];
+    let mut log = io::large_buffer();
     let mut line = [0u8; 519];
-    let mut piece = [0u8; 65536];
-    let mut out = [0u8; 262144];
+    let mut piece = io::large_buffer();
+    let mut out = answers();
     pump(
         &mut requirements,
         &mut periods,
