@@ -441,7 +441,7 @@ fn admitted(
     let ps = reading::column(line, 5);
     match admission::admit(&es[..n], &ps[..n], m) {
         Admission::Refused(refusal) => Answered {
-            kept: kept,
+            kept: kept, // The former set, at its time.
             size: put_refusal(out, 0, refusal),
         },
         Admission::Accepted(accepted) => {
