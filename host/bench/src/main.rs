@@ -69,9 +69,16 @@ fn bench(options: &Options) -> io::Result<bool> {
         text += &line;
     }
     if options.markdown {
-        fs::write(root().join("docs/SPEED.md"), format!("{HEAD}{text}"))?;
+        write_table(&root().join("docs/SPEED.md"), &text)?;
     }
     Ok(same)
+}
+
+/// The new head and table; what stands in the file from its next heading on stays.
+fn write_table(path: &Path, table: &str) -> io::Result<()> {
+    let was = fs::read_to_string(path).unwrap_or_default();
+    let rest = was.find("\n## ").map_or("", |at| &was[at..]);
+    fs::write(path, format!("{HEAD}{table}{rest}"))
 }
 
 /// Ours first and plain last. One that is not there is left out with a note,
