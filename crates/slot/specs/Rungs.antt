@@ -45,6 +45,12 @@ pub record Choosing (es ps rungs : List ℕ) (t : ℕ) : Type 0 where
   pub bounded : (i : ℕ) → i < length es → boundedBy multipleMost (at es i) (at ps i) ≡ true
   pub on-calendar : t ≤ timeMost
 
+-- What is known of the cut between the contenders that have room and those that have none: a place on either side of it. A place past
+-- the list says nothing.
+pub record Cut (es ps rungs : List ℕ) (t room inside outside : ℕ) : Type 0 where
+  pub has-room : inside < length es → rankTo (length es) es ps rungs t inside < room
+  pub no-room : outside < length es → room ≤ rankTo (length es) es ps rungs t outside
+
 -- Refusal 9 read off the rungs, and what a slot does that it does not refuse.
 unfoldable pub stuckBy : (units : ℕ) → ℕ → List ℕ → Bool
 stuckBy units n rungs = ltb units (rungsWithin 4 4 n rungs) || ltb (rungsWithin 4 4 n rungs + rungsWithin 1 3 n rungs) units

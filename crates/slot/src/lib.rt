@@ -6,18 +6,27 @@ use rule::Outcome;
 use rule::Refusal;
 ghost use mathlib.Core.Path.{_≡_};
 ghost use Prim.Native.Nat.{ℕ, _+_, _-_, _<_, _≤_};
-ghost use lib.ListN.{length};
+ghost use lib.Dec.{ltb};
+ghost use lib.ListN.{length, set};
 ghost use mathlib.Core.Bool.{true, _&&_};
 ghost use Rattle.rule.specs.Limits.{timeMost, multipleMost, boundedBy, within};
 ghost use Rattle.rule.specs.Places.{at, bit, each};
 ghost use Rattle.rule.specs.Task.{compare};
 ghost use Rattle.rule.specs.Slot.{goesFirst};
 ghost use Rattle.rule.specs.Outcomes.{admission, slot as slotOf};
-ghost use Rattle.slot.specs.Rungs.{Choosing, rungsWithin, onContending, goesBefore, rankTo, chosenBy, dealtRungs};
+ghost use Rattle.slot.specs.Rungs.{Choosing, Cut, rungsWithin, onContending, goesBefore, rankTo, chosenBy, dealtRungs};
 ghost use Rattle.slot.specs.Deal.{dealt};
 
 // The rung of an urgent task.
 const URGENT: u8 = 4;
+
+// 1 where the place asked last runs, 0 where not; and of the contenders asked so far one that has room and one that has none. A place
+// past the list says that there is none such yet.
+struct Choice {
+    chosen: u8,
+    inside: usize,
+    outside: usize,
+}
 
 // Does the first task go before the second, of which `lower` says whether its place is the lower one?
 fn goes_first(e: u32, p: u32, e2: u32, p2: u32, t: u32, lower: bool) -> bool
@@ -87,24 +96,76 @@ fn before(requirements: &[u32], periods: &[u32], rungs: &[u8], t: u32, j: usize,
     }
 }
 
-// How many contenders go before place i.
-fn contenders_before(requirements: &[u32], periods: &[u32], rungs: &[u8], t: u32, i: usize) -> usize
+// Do fewer contenders go before place i than there is room for? Once the room is taken the rest of them is not asked.
+fn has_room(
+    requirements: &[u32],
+    periods: &[u32],
+    rungs: &[u8],
+    t: u32,
+    i: usize,
+    room: usize,
+) -> bool
     requires { ⌜ Choosing (now requirements) (now periods) (now rungs) t ⌝ }
     requires { ⌜ i < length (now requirements) ⌝ }
-    ensures { λ r. ⌜ r ≡ rankTo (length (now (requirements .entry))) (now (requirements .entry)) (now (periods .entry)) (now (rungs .entry)) t i ⌝ }
+    ensures { λ r. ⌜ r ≡ ltb (rankTo (length (now (requirements .entry))) (now (requirements .entry)) (now (periods .entry)) (now (rungs .entry)) t i) room ⌝ }
 {
     let size = requirements.len();
     let mut found: usize = 0;
     let mut j = 0;
     while j < size {
+        if room <= found {
+            return false;
+        }
         found += before(requirements, periods, rungs, t, j, i);
         j += 1;
     }
-    found
+    found < room
 }
 
-// 1 where the slot runs place i, 0 where not. Beside the urgent ones there is room for so many of the contenders.
-fn is_chosen(
+// Does a contender run? Who goes before one that has room has room too, and who goes after one that has none has none, so that the
+// others are counted only for a place between the two.
+fn choice_of_contender(
+    requirements: &[u32],
+    periods: &[u32],
+    rungs: &[u8],
+    t: u32,
+    i: usize,
+    room: usize,
+    mut known: Choice,
+) -> Choice
+    requires { ⌜ Choosing (now requirements) (now periods) (now rungs) t ⌝ }
+    requires { ⌜ i < length (now requirements) ⌝ }
+    requires { ⌜ Cut (now requirements) (now periods) (now rungs) t room (known .inside) (known .outside) ⌝ }
+    ensures chosen { λ r. ⌜ r .chosen ≡ bit (ltb (rankTo (length (now (requirements .entry))) (now (requirements .entry)) (now (periods .entry)) (now (rungs .entry)) t i) room) ⌝ }
+    ensures cut { λ r. ⌜ Cut (now (requirements .entry)) (now (periods .entry)) (now (rungs .entry)) t room (r .inside) (r .outside) ⌝ }
+{
+    let size = requirements.len();
+    let inside = known.inside;
+    let outside = known.outside;
+    if inside < size {
+        if before(requirements, periods, rungs, t, i, inside) != 0 {
+            known.chosen = 1;
+            return known;
+        }
+    }
+    if outside < size {
+        if before(requirements, periods, rungs, t, outside, i) != 0 {
+            known.chosen = 0;
+            return known;
+        }
+    }
+    if has_room(requirements, periods, rungs, t, i, room) {
+        known.chosen = 1;
+        known.inside = i;
+        return known;
+    }
+    known.chosen = 0;
+    known.outside = i;
+    known
+}
+
+// Does the slot run place i? Beside the urgent ones there is room for so many of the contenders.
+fn choice_at(
     requirements: &[u32],
     periods: &[u32],
     rungs: &[u8],
@@ -112,28 +173,42 @@ fn is_chosen(
     i: usize,
     room: usize,
     contending: usize,
-) -> u8
+    mut known: Choice,
+) -> Choice
     requires { ⌜ Choosing (now requirements) (now periods) (now rungs) t ⌝ }
     requires { ⌜ i < length (now requirements) ⌝ }
     requires { ⌜ contending ≡ rungsWithin 1 3 (length (now requirements)) (now rungs) ⌝ }
-    ensures { λ r. ⌜ r ≡ bit (chosenBy (rungsWithin 4 4 (length (now (requirements .entry))) (now (rungs .entry)) + room) (now (requirements .entry)) (now (periods .entry)) (now (rungs .entry)) t i) ⌝ }
+    requires { ⌜ Cut (now requirements) (now periods) (now rungs) t room (known .inside) (known .outside) ⌝ }
+    ensures chosen { λ r. ⌜ r .chosen ≡ bit (chosenBy (rungsWithin 4 4 (length (now (requirements .entry))) (now (rungs .entry)) + room) (now (requirements .entry)) (now (periods .entry)) (now (rungs .entry)) t i) ⌝ }
+    ensures cut { λ r. ⌜ Cut (now (requirements .entry)) (now (periods .entry)) (now (rungs .entry)) t room (r .inside) (r .outside) ⌝ }
 {
     let rung = rungs[i];
     if rung == URGENT {
-        return 1;
+        known.chosen = 1;
+        return known;
     }
     if on_rung(rung, 1, 3) == 0 {
-        return 0;
+        known.chosen = 0;
+        return known;
     }
     // Where all contenders have room, their order is of no matter.
     if contending <= room {
-        return 1;
+        known.chosen = 1;
+        return known;
     }
-    if contenders_before(requirements, periods, rungs, t, i) < room {
-        1
-    } else {
-        0
+    choice_of_contender(requirements, periods, rungs, t, i, room, known)
+}
+
+// Adds 1 to the count of a chosen place. Where `chosen` is 0 nothing is stored.
+fn raise(counts: &mut [u32], i: usize, chosen: u8)
+    requires { ⌜ (i < length (now counts)) × (at (now counts) i < 4294967295) ⌝ }
+    requires { ⌜ chosen ≤ 1 ⌝ }
+    ensures { λ _. ⌜ now (counts .exit) ≡ set (now (counts .entry)) i (at (now (counts .entry)) i + chosen) ⌝ }
+{
+    if chosen == 0 {
+        return;
     }
+    counts[i] = counts[i] + 1;
 }
 
 // Runs the tasks that the slot chooses: a byte for each, and 1 more in the count of each chosen one.
@@ -154,20 +229,21 @@ fn choose(
     ensures counts { λ _. ⌜ now (counts .exit) ≡ each (length (now (counts .entry))) (λ i. at (now (counts .entry)) i + bit (chosenBy (rungsWithin 4 4 (length (now (requirements .entry))) (now (rungs .entry)) + room) (now (requirements .entry)) (now (periods .entry)) (now (rungs .entry)) t i)) ⌝ }
     ensures bytes { λ _. ⌜ now (bytes .exit) ≡ each (length (now (counts .entry))) (λ i. bit (chosenBy (rungsWithin 4 4 (length (now (requirements .entry))) (now (rungs .entry)) + room) (now (requirements .entry)) (now (periods .entry)) (now (rungs .entry)) t i)) ⌝ }
 {
+    let size = requirements.len();
     let n = counts.len();
+    let mut known = Choice {
+        chosen: 0,
+        inside: size,
+        outside: size,
+    };
     let mut i = 0;
     while i < n {
-        let chosen = is_chosen(requirements, periods, rungs, t, i, room, contending);
+        known = choice_at(requirements, periods, rungs, t, i, room, contending, known);
+        let chosen = known.chosen;
         bytes[i] = chosen;
-        counts[i] = counts[i] + wide(chosen);
+        raise(counts, i, chosen);
         i += 1;
     }
-}
-
-fn wide(byte: u8) -> u32
-    ensures { λ r. ⌜ r ≡ byte ⌝ }
-{
-    byte as u32
 }
 
 // Refusal 9, or the choice, of a field whose rungs are these.

@@ -1,17 +1,18 @@
--- `slot::is_chosen` meets its contract: its tests are those of `chosenBy`, but that a contender's rank is counted only where there are more
--- contenders than room; where not, the rank is below the room, since it is below their number. Assumes nothing.
+-- `slot::choice_at` meets its contract: its tests are those of `chosenBy`, but that a contender's rank is asked for only where there are
+-- more contenders than room; where not, the rank is below the room, since it is below their number. What is known of the cut stays,
+-- or is what the contender's choice leaves. Assumes nothing.
 use mathlib.Core.Path.{_≡_}
 use mathlib.Core.Bool.{true}
 use Prim.Native.Nat.{ℕ, _+_}
 use native.Mathlib.Omega.{arith}
 use borrow.Author.Needs.{needs}
-use borrow.Author.Tests.{lt-ltb, le-ltb}
+use borrow.Author.Tests.{lt-ltb}
 use lib.Dec.{ltb}
 use lib.ListN.{length}
 use Rattle.slot.specs.Rungs.{onContending, rankTo, rungsWithin, chosenBy}
 use Rattle.slot.proofs.Laws.{told-no, told-yes, rank-lt, chosen-urgent, chosen-neither, chosen-contending}
-use Rattle.slot.proofs.is_chosen.Statement.{statement}
-use Rattle.slot.proofs.is_chosen.Tie as tie
+use Rattle.slot.proofs.choice_at.Statement.{statement}
+use Rattle.slot.proofs.choice_at.Tie as tie
 
 abbrev start : tie.Else2 → tie.Start
 start c = c .before .before .before .before .before .before .before
@@ -42,8 +43,9 @@ shared-slice-read-rung c = search needs
 
 returns : tie.Need-returns
 returns c =
-    let s = c .before .before .before .before .before .args in
-    rw (chosen-urgent (s .requirements .now) (s .periods .now) (s .rungs .now) (s .t) (s .i) (s .room) (c .if1 .taken))
+    let s = c .before .before .before .before .before in
+    let x = s .args in
+    (rw (chosen-urgent (x .requirements .now) (x .periods .now) (x .rungs .now) (x .t) (x .i) (x .room) (c .if1 .taken)), s .pre .1 .1 .1)
 
 on-rung-requires : tie.Need-on-rung-requires
 on-rung-requires c κs = search needs
@@ -51,36 +53,31 @@ on-rung-requires c κs = search needs
 returns-2 : tie.Need-returns-2
 returns-2 c =
     let other = c .before .before in
-    let s = other .before .before .before .before .before .args in
-    let rungs = s .rungs .now in
-    let out = told-no (onContending rungs (s .i)) (c .before .on-rung .ensures) (c .if2 .taken) in
-    rw (chosen-neither (s .requirements .now) (s .periods .now) rungs (s .t) (s .i) (s .room) (other .if1 .left) out)
+    let s = other .before .before .before .before .before in
+    let x = s .args in
+    let rungs = x .rungs .now in
+    let out = told-no (onContending rungs (x .i)) (c .before .on-rung .ensures) (c .if2 .taken) in
+    (rw (chosen-neither (x .requirements .now) (x .periods .now) rungs (x .t) (x .i) (x .room) (other .if1 .left) out), s .pre .1 .1 .1)
 
 returns-3 : tie.Need-returns-3
 returns-3 c =
-    let x = start (c .before) .args in
+    let s = start (c .before) in
+    let x = s .args in
     let es = x .requirements .now in
     let rungs = x .rungs .now in
     let below = rank-lt (length es) (x .t) (x .i) es (x .periods .now) rungs (omega arith) (contends (c .before)) in
-    rw (by-rank (c .before), lt-ltb (rank (c .before)) (x .room) (omega arith))
+    (rw (by-rank (c .before), lt-ltb (rank (c .before)) (x .room) (omega arith)), s .pre .1 .1 .1)
 
-contenders-before-requires : tie.Need-contenders-before-requires
-contenders-before-requires c κs = search needs
+choice-of-contender-requires : tie.Need-choice-of-contender-requires
+choice-of-contender-requires c κs =
+    let s = start (c .before) in
+    (s .pre .0, (s .pre .1 .0, s .pre .1 .1 .1))
 
 returns-4 : tie.Need-returns-4
-returns-4 c =
-    let here = c .before .before .before in
-    let x = start here .args in
-    rw (by-rank here, lt-ltb (rank here) (x .room) (omega arith))
+returns-4 c = (rw (by-rank (c .before .before)) (c .choice-of-contender .ensures .0), c .choice-of-contender .ensures .1)
 
-returns-5 : tie.Need-returns-5
-returns-5 c =
-    let here = c .before .before .before in
-    let x = start here .args in
-    rw (by-rank here, le-ltb (rank here) (x .room) (omega arith))
-
-pub is-chosen-spec : {M : Type 1} → statement M
-is-chosen-spec =
+pub choice-at-spec : {M : Type 1} → statement M
+choice-at-spec =
     tie.close
     (tie.spec
     shared-slice-read-rung
@@ -88,6 +85,5 @@ is-chosen-spec =
     on-rung-requires
     returns-2
     returns-3
-    contenders-before-requires
-    returns-4
-    returns-5)
+    choice-of-contender-requires
+    returns-4)
