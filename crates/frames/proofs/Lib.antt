@@ -1,5 +1,8 @@
-pub mod Writing
-pub mod Answering
+pub mod Keeping
+pub mod Runs
+pub mod Listings
+pub mod Asking
+pub mod Sets
 pub mod Room
 pub mod Stream
 pub mod Sizes

@@ -1,51 +1,32 @@
 -- No answer is longer than the longest one: 1,024 lines of a slot and a refusal's. Assumes nothing.
-use mathlib.Core.Path.{_≡_, refl, ap, _∙_}
-use mathlib.Core.List.{List, [], _∷_, _++_}
+use mathlib.Core.Path.{_≡_, refl, ap}
+use mathlib.Core.List.{List, _∷_, _++_}
 use Prim.Native.Nat.{ℕ, zero, suc, _*_, _≤_}
 use native.Mathlib.Omega.{arith}
-use lib.ListN.{length, take, drop, length-append}
+use lib.ListN.{length, length-append}
 use Rattle.rule.specs.declared.Admission.{Admission}
 use Rattle.rule.specs.declared.Admission.the-variants.{Accepted as accepted, Refused as notAdmitted}
-use Rattle.rule.specs.declared.Outcome.{Outcome}
-use Rattle.rule.specs.declared.Outcome.the-variants.{Done, Refused}
 use Rattle.rule.specs.Places.{each}
 use Rattle.rule.specs.Refusals.{Verdict, passed, refused, first, listingChecks}
 use Rattle.rule.specs.Outcomes.{admission, run as runOf, listing, listingBy, markAt}
 use Rattle.rule.proofs.Places.{length-each}
-use Rattle.hex.specs.Digits.{digitsOf}
 use Rattle.hex.specs.Fields.{field}
 use Rattle.hex.proofs.Fields.{length-field}
+use Rattle.run.proofs.Done.{done-few}
+use Rattle.writing.specs.AnswerLines.{slotLines, endLine}
+use Rattle.writing.proofs.Sizes.{length-line, length-refusal, length-malformed, length-accepted, take-few, slots-small, end-small}
 use Rattle.reading.specs.Kinds.{Frame, admit, run, list, malformed, read}
 use Rattle.frames.specs.declared.Kept.{Kept}
 use Rattle.frames.specs.Session.{Session, noSet, inForce}
-use Rattle.frames.specs.Replies.{Reply, lineOf, malformedLine, slotLine, slotLines, endLine, admitReply, runReply, listText, reply}
+use Rattle.frames.specs.Replies.{admitReply, runReply, listText, reply}
 use Rattle.frames.specs.Transcript.{answerTo}
 use Rattle.frames.specs.Keeping.{sessionOf, answerMost}
-use Rattle.frames.proofs.Writing.{length-line, length-refusal, length-accepted, slot-small, take-few}
-use Rattle.frames.proofs.Answering.{done-fits, in-force, no-set}
+use Rattle.frames.proofs.Keeping.{in-force, no-set}
 
 -- How many tasks the set in force has.
 abbrev tasksOf : Session → ℕ
 tasksOf noSet = 0
 tasksOf (inForce m es ps ks t) = length es
-
-length-malformed : length malformedLine ≡ 7
-unfolding malformedLine lineOf digitsOf
-length-malformed = refl
-
-end-small : (end : Outcome) → length (endLine end) ≤ 7
-unfolding endLine
-end-small Done = omega arith
-end-small (Refused r) = let seven = length-refusal r in omega arith
-
-slots-small : (s n t : ℕ) (log : List ℕ) → n ≤ 64 → length (slotLines s n t log) ≤ s * 141
-unfolding slotLines
-slots-small zero n t log few = omega arith
-slots-small (suc s) n t log few =
-    let here = slot-small t (take n log) (let h = take-few n log in omega arith) in
-    let later = slots-small s n (suc t) (drop n log) few in
-    let both = length-append (slotLine t (take n log)) (slotLines s n (suc t) (drop n log)) in
-    omega arith
 
 admit-small : (was : Session) (m : ℕ) (es ps : List ℕ) (a : Admission) → length (admitReply was m es ps a .text) ≤ answerMost
 unfolding admitReply
@@ -71,7 +52,7 @@ reply-small was (admit m es ps) few = admit-small was m es ps (admission es ps m
 reply-small noSet (run s) few = let h = length-malformed in omega arith
 reply-small (inForce m es ps ks t) (run s) few =
     let r = runOf s es ps ks (each (s * length es) (λ i. 0)) m t in
-    let done = done-fits s es ps ks (each (s * length es) (λ i. 0)) m t (length es) .1 in
+    let done = done-few s es ps ks (each (s * length es) (λ i. 0)) m t in
     let slots = slots-small (r .answer .done) (length es) t (r .log) few in
     let end = end-small (r .answer .end) in
     let both = length-append (slotLines (r .answer .done) (length es) t (r .log)) (endLine (r .answer .end)) in

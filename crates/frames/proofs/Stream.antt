@@ -8,7 +8,8 @@ use native.Mathlib.Omega.{arith}
 use borrow.Author.Tests.{leb-true, leb-false, le-leb, lt-leb}
 use lib.Dec.{leb, eqb}
 use lib.ListN.{length, length-append}
-use Rattle.frames.specs.Lines.{lineFeed, linesAfter, linesOf}
+use Rattle.writing.specs.AnswerLines.{lineFeed}
+use Rattle.frames.specs.Lines.{linesAfter, linesOf}
 use Rattle.reading.specs.Kinds.{Frame, malformed, digitsMost, wellFormed, read}
 use Rattle.frames.specs.Session.{Session, noSet}
 use Rattle.frames.specs.Replies.{Reply, reply}

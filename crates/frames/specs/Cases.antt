@@ -18,7 +18,8 @@ use Rattle.hex.specs.Digits.{allDigits, bytesOf, digitsOf}
 use Rattle.hex.specs.Fields.{fieldAt, field}
 use Rattle.frames.specs.Lines.{linesAfter}
 use Rattle.reading.specs.Kinds.{admitFrame, runFrame, listFrame, frameOf, wellFormed, read}
-use Rattle.frames.specs.Replies.{lineOf, refusalLine, malformedLine, spareBytes, acceptedLine, placesFrom, slotLine, slotLines, endLine, admitReply, runReply, listText, reply}
+use Rattle.writing.specs.AnswerLines.{lineOf, refusalLine, malformedLine, spareBytes, acceptedLine, placesFrom, slotLine, slotLines, endLine}
+use Rattle.frames.specs.Replies.{admitReply, runReply, listText, reply}
 use Rattle.frames.specs.Transcript.{answerTo, answers, transcript}
 
 pub record Row : Type 0 where

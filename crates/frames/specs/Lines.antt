@@ -4,9 +4,7 @@ use mathlib.Core.Bool.{Bool, cond}
 use mathlib.Core.List.{List, [], _∷_, _++_}
 use Prim.Native.Nat.{ℕ}
 use lib.Dec.{eqb}
-
-abbrev pub lineFeed : ℕ
-lineFeed = 0x0a
+use Rattle.writing.specs.AnswerLines.{lineFeed}
 
 -- The lines of an input of which this much of a line is at hand already. An end without a line feed ends the line at hand, if there
 -- is any of it.

@@ -5,7 +5,7 @@ use mathlib.Core.List.{List, [], _∷_, _++_}
 use Prim.Native.Nat.{ℕ}
 use lib.Dec.{leb, eqb}
 use lib.ListN.{length}
-use Rattle.frames.specs.Lines.{lineFeed}
+use Rattle.writing.specs.AnswerLines.{lineFeed}
 use Rattle.reading.specs.Kinds.{digitsMost}
 use Rattle.frames.specs.Session.{Session, noSet}
 use Rattle.frames.specs.Replies.{Reply}

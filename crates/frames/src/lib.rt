@@ -1,234 +1,22 @@
 // Frames: lines of hexadecimal, and the answers to them.
 use reading::Asked;
-use rule::Accepted;
 use rule::Admission;
 use rule::Outcome;
 use rule::Ran;
-use rule::Refusal;
-use rule::Spare;
 ghost use mathlib.Core.Bool.{cond, _&&_};
 ghost use mathlib.Core.Path.{_≡_};
-ghost use mathlib.Core.List.{[], _∷_, _++_};
-ghost use Prim.Native.Nat.{_+_, _*_, _<_, _≤_};
-ghost use lib.Dec.{eqb, ltb, leb};
+ghost use Prim.Native.Nat.{_*_, _<_, _≤_};
+ghost use lib.Dec.{ltb, leb};
 ghost use lib.ListN.{length, take};
 ghost use lib.Seq.{sets};
-ghost use Rattle.rule.specs.Answers.{carriedBy};
 ghost use Rattle.rule.specs.Limits.{slotsMost};
-ghost use Rattle.rule.specs.Places.{at, bit};
+ghost use Rattle.rule.specs.Places.{at};
 ghost use Rattle.rule.specs.Outcomes.{run as runOf, listing};
 ghost use Rattle.rule.proofs.Written.{written};
-ghost use Rattle.hex.specs.Digits.{digitsOf};
-ghost use Rattle.hex.specs.Fields.{field};
-ghost use Rattle.frames.specs.Lines.{lineFeed};
 ghost use Rattle.reading.specs.Kinds.{read, run as aRun, list as aListing};
 ghost use Rattle.reading.specs.Asking.{askedBy};
-ghost use Rattle.frames.specs.Replies.{placeByte, lineOf, refusalLine, malformedLine, spareBytes, acceptedLine, placesFrom, slotLine, slotLines, endLine, reply};
+ghost use Rattle.frames.specs.Replies.{reply};
 ghost use Rattle.frames.specs.Keeping.{sessionOf, logMost, hasRoom, answered};
-
-// The lines of an answer. Each is stored as far as there is room, and the place after it is that of the whole line, so
-// that a caller can tell. Places are bounded only so that no sum of them is too large for a usize.
-const LINE_FEED: u8 = 0x0A;
-
-// Where a refusal names no place.
-const NO_PLACE: u32 = 0xFF;
-
-// Ends a line of an answer, where there is room.
-fn end_line(out: &mut [u8], at: usize)
-    ensures { λ _. ⌜ now (out .exit) ≡ sets (now (out .entry)) at (lineFeed ∷ []) ⌝ }
-{
-    if at < out.len() {
-        out[at] = LINE_FEED;
-    }
-}
-
-// The place that a refusal's line names. An excess is no place.
-fn place_of(refusal: Refusal) -> u32
-    ensures { λ r. ⌜ r ≡ placeByte (carriedBy refusal) ⌝ }
-{
-    match refusal {
-        Refusal::Lengths => NO_PLACE,
-        Refusal::Tasks => NO_PLACE,
-        Refusal::Units => NO_PLACE,
-        Refusal::Record { place } => place,
-        Refusal::Multiple => NO_PLACE,
-        Refusal::Load { excess: _ } => NO_PLACE,
-        Refusal::Time => NO_PLACE,
-        Refusal::Lag { place } => place,
-        Refusal::Stuck => NO_PLACE,
-        Refusal::Slots => NO_PLACE,
-    }
-}
-
-// Writes a refusal's line from a place on, and answers the place after it.
-fn put_refusal(out: &mut [u8], at: usize, refusal: Refusal) -> usize
-    requires { ⌜ at ≤ 4294967295 ⌝ }
-    ensures out { λ r. ⌜ now (out .exit) ≡ sets (now (out .entry)) at (refusalLine refusal) ⌝ }
-    ensures place { λ r. ⌜ r ≡ at + length (refusalLine refusal) ⌝ }
-{
-    hex::put_byte(out, at, 0x8F);
-    hex::put_field(out, at + 2, 1, rule::number_of(refusal));
-    hex::put_field(out, at + 4, 1, place_of(refusal));
-    end_line(out, at + 6);
-    at + 7
-}
-
-// Writes the line of refusal 11, which no call of the library gives.
-fn put_malformed(out: &mut [u8]) -> usize
-    ensures out { λ r. ⌜ now (out .exit) ≡ sets (now (out .entry)) 0 malformedLine ⌝ }
-    ensures place { λ r. ⌜ r ≡ length malformedLine ⌝ }
-{
-    hex::put_byte(out, 0, 0x8F);
-    hex::put_byte(out, 2, 11);
-    hex::put_byte(out, 4, 0xFF);
-    end_line(out, 6);
-    7
-}
-
-// Writes the spare's two fields from a place on: 0 and 0 if there is none.
-fn put_spare(out: &mut [u8], at: usize, spare: Spare)
-    requires { ⌜ at ≤ 4294967295 ⌝ }
-    ensures { λ _. ⌜ now (out .exit) ≡ sets (now (out .entry)) at (digitsOf (spareBytes spare)) ⌝ }
-{
-    match spare {
-        Spare::Nobody => {
-            hex::put_field(out, at, 4, 0);
-            hex::put_field(out, at + 8, 4, 0);
-        }
-        Spare::Task { e, p } => {
-            hex::put_field(out, at, 4, e);
-            hex::put_field(out, at + 8, 4, p);
-        }
-    }
-}
-
-// Writes the line of an accepted set, and answers its length.
-fn put_accepted(out: &mut [u8], accepted: Accepted) -> usize
-    ensures out { λ r. ⌜ now (out .exit) ≡ sets (now (out .entry)) 0 (acceptedLine accepted) ⌝ }
-    ensures place { λ r. ⌜ r ≡ length (acceptedLine accepted) ⌝ }
-{
-    hex::put_byte(out, 0, 0x81);
-    hex::put_field(out, 2, 1, accepted.units);
-    hex::put_field(out, 4, 4, accepted.multiple);
-    let spare = accepted.spare;
-    put_spare(out, 12, spare);
-    end_line(out, 28);
-    29
-}
-
-// Writes bytes as they are, from a place on.
-fn put_bytes(out: &mut [u8], at: usize, bytes: &[u8])
-    requires { ⌜ (at ≤ 4294967295) × (length (now bytes) ≤ 64) ⌝ }
-    ensures { λ _. ⌜ now (out .exit) ≡ sets (now (out .entry)) at (digitsOf (now (bytes .entry))) ⌝ }
-{
-    let mut place = at;
-    let mut i = 0;
-    while i < bytes.len() {
-        hex::put_byte(out, place, bytes[i]);
-        place += 2;
-        i += 1;
-    }
-}
-
-// Writes the line of a listing, and answers its length.
-fn put_listing(out: &mut [u8], t: u32, bytes: &[u8]) -> usize
-    requires { ⌜ length (now bytes) ≤ 64 ⌝ }
-    ensures out { λ r. ⌜ now (out .exit) ≡ sets (now (out .entry)) 0 (lineOf (0x83 ∷ field 4 t ++ now (bytes .entry))) ⌝ }
-    ensures place { λ r. ⌜ r ≡ length (lineOf (0x83 ∷ field 4 t ++ now (bytes .entry))) ⌝ }
-{
-    hex::put_byte(out, 0, 0x83);
-    hex::put_field(out, 2, 4, t);
-    put_bytes(out, 10, bytes);
-    let end = 10 + 2 * bytes.len();
-    end_line(out, end);
-    end + 1
-}
-
-// What a task's byte adds to the count of those that ran.
-fn one_if_ran(byte: u8) -> u8
-    ensures count { λ r. ⌜ r ≡ bit (eqb byte 1) ⌝ }
-    ensures small { λ r. ⌜ r ≤ 1 ⌝ }
-{
-    if byte == 1 { 1 } else { 0 }
-}
-
-// How many tasks ran in a slot, which its line names before their places.
-fn count_ran(bytes: &[u8]) -> u8
-    requires { ⌜ length (now bytes) ≤ 64 ⌝ }
-    ensures { λ r. ⌜ r ≡ length (placesFrom 0 (now (bytes .entry))) ⌝ }
-{
-    let mut ran = 0;
-    let mut i = 0;
-    while i < bytes.len() {
-        ran += one_if_ran(bytes[i]);
-        i += 1;
-    }
-    ran
-}
-
-// Writes a task's place if it ran, and answers the place in the line after it.
-fn put_if_ran(out: &mut [u8], at: usize, task: u8, byte: u8) -> usize
-    requires { ⌜ at ≤ 8589934591 ⌝ }
-    ensures out { λ r. ⌜ now (out .exit) ≡ sets (now (out .entry)) at (digitsOf (placesFrom task (byte ∷ []))) ⌝ }
-    ensures place { λ r. ⌜ r ≡ at + 2 * length (placesFrom task (byte ∷ [])) ⌝ }
-{
-    if byte != 1 {
-        return at;
-    }
-    hex::put_byte(out, at, task);
-    at + 2
-}
-
-// Writes the places of the tasks that ran, rising, and answers the place after them.
-fn put_places(out: &mut [u8], at: usize, bytes: &[u8]) -> usize
-    requires { ⌜ (at ≤ 4294967307) × (length (now bytes) ≤ 64) ⌝ }
-    ensures out { λ r. ⌜ now (out .exit) ≡ sets (now (out .entry)) at (digitsOf (placesFrom 0 (now (bytes .entry)))) ⌝ }
-    ensures place { λ r. ⌜ r ≡ at + 2 * length (placesFrom 0 (now (bytes .entry))) ⌝ }
-{
-    let mut place = at;
-    let mut i = 0;
-    while i < bytes.len() {
-        place = put_if_ran(out, place, i as u8, bytes[i]);
-        i += 1;
-    }
-    place
-}
-
-// Writes the line of one slot from a place on, and answers the place after it.
-fn put_slot(out: &mut [u8], at: usize, t: u32, bytes: &[u8]) -> usize
-    requires { ⌜ (at ≤ 4294967295) × (length (now bytes) ≤ 64) ⌝ }
-    ensures out { λ r. ⌜ now (out .exit) ≡ sets (now (out .entry)) at (slotLine t (now (bytes .entry))) ⌝ }
-    ensures place { λ r. ⌜ r ≡ at + length (slotLine t (now (bytes .entry))) ⌝ }
-{
-    hex::put_byte(out, at, 0x82);
-    hex::put_field(out, at + 2, 4, t);
-    hex::put_byte(out, at + 10, count_ran(bytes));
-    let end = put_places(out, at + 12, bytes);
-    end_line(out, end);
-    end + 1
-}
-
-// Writes the lines of so many slots of n tasks from time t on, and answers their length.
-fn put_slots(out: &mut [u8], slots: u32, n: usize, t: u32, log: &[u8]) -> usize
-    requires { ⌜ (slots ≤ 1024) × (n ≤ 64) × (slots * n ≤ length (now log)) × (t + slots ≤ 4294967295) ⌝ }
-    ensures out { λ r. ⌜ now (out .exit) ≡ sets (now (out .entry)) 0 (slotLines slots n t (now (log .entry))) ⌝ }
-    ensures place { λ r. ⌜ r ≡ length (slotLines slots n t (now (log .entry))) ⌝ }
-    ensures small { λ r. ⌜ r ≤ 1024 * 141 ⌝ }
-{
-    let mut place = 0;
-    // Counted down, as the lines are defined.
-    let mut left = slots;
-    let mut time = t;
-    let mut from = 0;
-    while left > 0 {
-        let to = from + n;
-        place = put_slot(out, place, time, &log[from..to]);
-        from = to;
-        time += 1;
-        left -= 1;
-    }
-    place
-}
 
 // What is kept between frames beside the three lists: how many tasks the set in force has, on how many units, and the time. n is 0
 // where there is no set.
@@ -347,18 +135,6 @@ fn list_part(
     )
 }
 
-// The line of the refusal that stopped a run, if one did.
-fn put_end(out: &mut [u8], at: usize, end: Outcome) -> usize
-    requires { ⌜ at ≤ 4294967295 ⌝ }
-    ensures out { λ r. ⌜ now (out .exit) ≡ sets (now (out .entry)) at (endLine end) ⌝ }
-    ensures place { λ r. ⌜ r ≡ at + length (endLine end) ⌝ }
-{
-    match end {
-        Outcome::Done => at,
-        Outcome::Refused(refusal) => put_refusal(out, at, refusal),
-    }
-}
-
 // The answer to a run of the set in force.
 fn ran(
     kept: Kept,
@@ -383,16 +159,15 @@ fn ran(
     clear(log, size);
     let run = run_part(slots, requirements, periods, counts, log, kept, size);
     let done = run.done;
-    let place = put_slots(out, done, n, t, &log[..size]);
     let end = run.end;
-    let place = put_end(out, place, end);
+    let written = writing::put_run(out, done, n, t, &log[..size], end);
     Answered {
         kept: Kept {
             n: n,
             m: m,
             t: t + done,
         },
-        size: place,
+        size: written,
     }
 }
 
@@ -414,8 +189,8 @@ fn listed(
     let t = kept.t;
     clear(log, n);
     match list_part(requirements, periods, counts, log, kept) {
-        Outcome::Done => put_listing(out, t, &log[..n]),
-        Outcome::Refused(refusal) => put_refusal(out, 0, refusal),
+        Outcome::Done => writing::put_listing(out, t, &log[..n]),
+        Outcome::Refused(refusal) => writing::put_refused(out, refusal),
     }
 }
 
@@ -442,7 +217,7 @@ fn admitted(
     match admission::admit(&es[..n], &ps[..n], m) {
         Admission::Refused(refusal) => Answered {
             kept: kept, // The former set, at its time.
-            size: put_refusal(out, 0, refusal),
+            size: writing::put_refused(out, refusal),
         },
         Admission::Accepted(accepted) => {
             copy(&es, requirements);
@@ -450,7 +225,7 @@ fn admitted(
             clear_counts(counts, n);
             Answered {
                 kept: Kept { n: n, m: m, t: 0 },
-                size: put_accepted(out, accepted),
+                size: writing::put_accepted(out, accepted),
             }
         }
     }
@@ -476,7 +251,7 @@ fn answer_run(
     if kept.n == 0 {
         return Answered {
             kept: kept,
-            size: put_malformed(out),
+            size: writing::put_malformed(out),
         };
     }
     ran(kept, requirements, periods, counts, log, slots, out)
@@ -497,7 +272,7 @@ fn answer_list(
     ensures size { λ r. ⌜ r ≡ length (reply (sessionOf kept (now (requirements .entry)) (now (periods .entry)) (now (counts .entry))) aListing .text) ⌝ }
 {
     if kept.n == 0 {
-        return put_malformed(out);
+        return writing::put_malformed(out);
     }
     listed(kept, requirements, periods, counts, log, out)
 }
@@ -553,7 +328,7 @@ pub fn answer(
         },
         Asked::Malformed => Answered {
             kept: kept,
-            size: put_malformed(out),
+            size: writing::put_malformed(out),
         },
     }
 }

@@ -10,7 +10,7 @@ use lib.Dec.{leb, eqb}
 use lib.ListN.{length, getD, set, take, drop, drop-of-length-le}
 use lib.Seq.{drop-cons, take-suc-set, length-take-le}
 use Rattle.reading.specs.Kinds.{digitsMost}
-use Rattle.frames.specs.Lines.{lineFeed}
+use Rattle.writing.specs.AnswerLines.{lineFeed}
 use Rattle.frames.specs.Session.{Session}
 use Rattle.frames.specs.Replies.{Reply}
 use Rattle.frames.specs.Transcript.{answerTo}

@@ -4,7 +4,7 @@ use mathlib.Core.List.{List, [], _∷_}
 use Prim.Native.Nat.{ℕ, suc, _-_}
 use lib.Dec.{leb, eqb}
 use lib.ListN.{length, take}
-use Rattle.frames.specs.Lines.{lineFeed}
+use Rattle.writing.specs.AnswerLines.{lineFeed}
 use Rattle.frames.specs.Session.{Session}
 use Rattle.frames.specs.Replies.{Reply}
 use Rattle.frames.specs.Transcript.{answerTo}

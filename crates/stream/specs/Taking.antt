@@ -3,7 +3,7 @@ use mathlib.Core.Bool.{Bool, true, false, cond}
 use mathlib.Core.List.{List, [], _∷_}
 use Prim.Native.Nat.{ℕ, suc}
 use lib.Dec.{eqb}
-use Rattle.frames.specs.Lines.{lineFeed}
+use Rattle.writing.specs.AnswerLines.{lineFeed}
 use Rattle.frames.specs.Session.{Session}
 use Rattle.frames.specs.Replies.{Reply}
 use Rattle.frames.specs.Transcript.{answerTo}

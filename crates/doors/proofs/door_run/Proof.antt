@@ -4,7 +4,7 @@ use Prim.Native.Nat.{_≤_}
 use borrow.Author.Needs.{needs}
 use Rattle.rule.specs.Limits.{slotsMost}
 use Rattle.doors.specs.Codes.{ranCode}
-use Rattle.doors.proofs.Laws.{done-few}
+use Rattle.run.proofs.Done.{done-few}
 use Rattle.doors.proofs.door_run.Statement.{statement}
 use Rattle.doors.proofs.door_run.Tie as tie
 

@@ -1,13 +1,13 @@
 -- `admitted` meets its contract: the lists of the line are admitted, and kept with the time and the counts at 0 if they are accepted. Assumes nothing.
 use mathlib.Core.Path.{sym, ap, _∙_}
 use Prim.Native.Nat.{_≤_}
-use native.Mathlib.Nat.{zero-add}
 use native.Mathlib.Omega.{arith}
 use borrow.Author.Needs.{needs}
 use lib.ListN.{length, take}
 use lib.Seq.{sets, length-take-le}
 use Rattle.frames.specs.Keeping.{sessionOf}
-use Rattle.frames.proofs.Answering.{set-refused, set-text, set-session, copied, take-written}
+use Rattle.frames.proofs.Keeping.{take-written}
+use Rattle.frames.proofs.Sets.{set-refused, set-text, set-session, copied}
 use Rattle.frames.proofs.admitted.Statement.{statement}
 use Rattle.frames.proofs.admitted.Tie as tie
 
@@ -35,8 +35,8 @@ admit-requires c κs = search needs
 enum-known-refusal : tie.Need-enum-known-refusal
 enum-known-refusal c = search needs
 
-put-refusal-requires : tie.Need-put-refusal-requires
-put-refusal-requires c κs = search needs
+put-refused-requires : tie.Need-put-refused-requires
+put-refused-requires c κs = search needs
 
 enum-known-accepted : tie.Need-enum-known-accepted
 enum-known-accepted c = search needs
@@ -71,7 +71,7 @@ returns c =
     let es = c .before .before .before .before .before .before .before .before .before .before .before in
     let x = c .before .before .before .before .before .before .before .before .before .before .before .before .before .before .before .before .before in
     let both = set-refused (x .args .line .now) (x .args .m) (x .args .n) (x .pre .0 .0) (es .column .result) (ps .column2 .result) (es .column .ensures) (ps .column2 .ensures) (sessionOf (x .args .kept) (x .args .requirements .now) (x .args .periods .now) (x .args .counts .now)) _ (sym (d .admit .ensures) ∙ told .refusal .given .1) in
-    (both .0, (p .put-refusal .ensures .0 ∙ ap (sets (x .args .out .now) 0) (both .1), (p .put-refusal .ensures .1 ∙ zero-add _ ∙ ap length (both .1), x .pre .1 .3)))
+    (both .0, (p .put-refused .ensures .0 ∙ ap (sets (x .args .out .now) 0) (both .1), (p .put-refused .ensures .1 ∙ ap length (both .1), x .pre .1 .3)))
 
 same-length-2 : tie.Need-same-length-2
 same-length-2 c = search needs
@@ -118,7 +118,7 @@ admitted-spec =
     slice-aggregate-admit-2
     admit-requires
     enum-known-refusal
-    put-refusal-requires
+    put-refused-requires
     enum-known-accepted
     slice-aggregate-copy
     copy-requires

@@ -8,7 +8,8 @@ use lib.Seq.{sets}
 use Rattle.reading.specs.Kinds.{read}
 use Rattle.frames.specs.Replies.{reply}
 use Rattle.frames.specs.Keeping.{sessionOf}
-use Rattle.frames.proofs.Answering.{asked-admit, asked-run, asked-list, asked-malformed, list-keeps, malformed-reply}
+use Rattle.frames.proofs.Keeping.{list-keeps, malformed-reply}
+use Rattle.frames.proofs.Asking.{asked-admit, asked-run, asked-list, asked-malformed}
 use Rattle.frames.proofs.Room.{roomy, with-room, without-room, room-stays}
 use Rattle.frames.proofs.answer.Statement.{statement}
 use Rattle.frames.proofs.answer.Tie as tie

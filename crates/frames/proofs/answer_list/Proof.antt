@@ -3,7 +3,7 @@ use mathlib.Core.Path.{ap, _∙_}
 use borrow.Author.Needs.{needs}
 use lib.ListN.{length}
 use lib.Seq.{sets}
-use Rattle.frames.proofs.Answering.{list-none}
+use Rattle.frames.proofs.Keeping.{list-none}
 use Rattle.frames.proofs.answer_list.Statement.{statement}
 use Rattle.frames.proofs.answer_list.Tie as tie
 

@@ -3,7 +3,7 @@ use mathlib.Core.Path.{ap, _∙_}
 use borrow.Author.Needs.{needs}
 use lib.ListN.{length}
 use lib.Seq.{sets}
-use Rattle.frames.proofs.Answering.{run-none-session, run-none-text}
+use Rattle.frames.proofs.Keeping.{run-none-session, run-none-text}
 use Rattle.frames.proofs.answer_run.Statement.{statement}
 use Rattle.frames.proofs.answer_run.Tie as tie
 

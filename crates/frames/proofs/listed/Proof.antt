@@ -1,12 +1,11 @@
 -- `listed` meets its contract: the listing into the cleared front of the log is the one that the answer is of. Assumes nothing.
 use mathlib.Core.Path.{sym, ap, _∙_}
 use Prim.Native.Nat.{_≤_}
-use native.Mathlib.Nat.{zero-add}
 use native.Mathlib.Omega.{arith}
 use borrow.Author.Needs.{needs}
 use lib.ListN.{length}
 use lib.Seq.{sets, length-take-le}
-use Rattle.frames.proofs.Answering.{list-done, list-refused}
+use Rattle.frames.proofs.Listings.{list-done, list-refused}
 use Rattle.frames.proofs.listed.Statement.{statement}
 use Rattle.frames.proofs.listed.Tie as tie
 
@@ -26,16 +25,13 @@ slice-aggregate-put-listing : tie.Need-slice-aggregate-put-listing
 slice-aggregate-put-listing c = sym (length-take-le _ _ (search needs))
 
 put-listing-requires : tie.Need-put-listing-requires
-put-listing-requires c κs =
-    let whole = slice-aggregate-put-listing c in
-    let few = c .before .before .before .before .before .before .before .before .before .before .before .before .before .before .before .before .before .pre .0 .1 in
-    omega arith
+put-listing-requires c κs = search needs
 
 enum-known-refusal : tie.Need-enum-known-refusal
 enum-known-refusal c = search needs
 
-put-refusal-requires : tie.Need-put-refusal-requires
-put-refusal-requires c κs = search needs
+put-refused-requires : tie.Need-put-refused-requires
+put-refused-requires c κs = search needs
 
 same-length : tie.Need-same-length
 same-length c = search needs
@@ -51,7 +47,7 @@ returns c =
     let l = c .before .before .before .before .before .before .before .before .before .before .before .before .before in
     let x = c .before .before .before .before .before .before .before .before .before .before .before .before .before .before .before .before .before .before .before .before in
     let room : x .args .kept .n ≤ length (x .args .log .now) = omega (arith, x .pre .0 .1, x .pre .1 .3) in
-    let text = list-done (x .args .kept) (x .args .requirements .now) (x .args .periods .now) (x .args .counts .now) (x .args .log .now) (x .pre .0 .0) (x .pre .1 .0) room (l .clear .last .0) (l .clear .ensures) (d .list-part .result) (d .list-part .ensures .0) (told .enum-told .given .1) _ (d .list-part .ensures .1) in
+    let text = list-done (x .args .kept) (x .args .requirements .now) (x .args .periods .now) (x .args .counts .now) (x .args .log .now) (x .pre .0 .0) (x .pre .1 .0) room (l .clear .last .0) (l .clear .ensures) (d .list-part .result) (d .list-part .ensures .0) (told .enum-told .given .1) (x .pre .0 .1) _ (d .list-part .ensures .1) in
     (p .put-listing .ensures .0 ∙ ap (sets (x .args .out .now) 0) text, p .put-listing .ensures .1 ∙ ap length text)
 
 same-length-3 : tie.Need-same-length-3
@@ -69,7 +65,7 @@ returns-2 c =
     let x = c .before .before .before .before .before .before .before .before .before .before .before .before .before .before .before .before .before .before .before .before in
     let room : x .args .kept .n ≤ length (x .args .log .now) = omega (arith, x .pre .0 .1, x .pre .1 .3) in
     let text = list-refused (x .args .kept) (x .args .requirements .now) (x .args .periods .now) (x .args .counts .now) (x .args .log .now) (x .pre .0 .0) (x .pre .1 .0) room (l .clear .last .0) (l .clear .ensures) (d .list-part .result) (d .list-part .ensures .0) _ (told .refusal .given .1) in
-    (p .put-refusal .ensures .0 ∙ ap (sets (x .args .out .now) 0) text, p .put-refusal .ensures .1 ∙ zero-add _ ∙ ap length text)
+    (p .put-refused .ensures .0 ∙ ap (sets (x .args .out .now) 0) text, p .put-refused .ensures .1 ∙ ap length text)
 
 pub listed-spec : {M : Type 1} → statement M
 listed-spec =
@@ -82,7 +78,7 @@ listed-spec =
     slice-aggregate-put-listing
     put-listing-requires
     enum-known-refusal
-    put-refusal-requires
+    put-refused-requires
     same-length
     same-length-2
     returns

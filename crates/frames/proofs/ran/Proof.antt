@@ -1,11 +1,12 @@
--- `ran` meets its contract: the run on the cleared part of the log is the one that the answer is of, and its lines are stored one after the other. Assumes nothing.
-use mathlib.Core.Path.{sym}
-use Prim.Native.Nat.{_+_, _*_, _<_, _≤_, max}
+-- `ran` meets its contract: the run on the cleared part of the log is the one that the answer is of, and it fits, so that its lines are all
+-- written. Assumes nothing.
+use mathlib.Core.Path.{sym, ap, _∙_}
+use Prim.Native.Nat.{_+_, _<_, _≤_}
 use native.Mathlib.Omega.{arith}
 use borrow.Author.Needs.{needs}
 use lib.ListN.{length}
-use lib.Seq.{length-take-le}
-use Rattle.frames.proofs.Answering.{ran-bounds, ran-session, ran-text}
+use lib.Seq.{sets, length-take-le}
+use Rattle.frames.proofs.Runs.{ran-bounds, ran-session, ran-text}
 use Rattle.frames.proofs.ran.Statement.{statement}
 use Rattle.frames.proofs.ran.Tie as tie
 
@@ -18,40 +19,28 @@ clear-requires c κs = search needs
 run-part-requires : tie.Need-run-part-requires
 run-part-requires c κs = search needs
 
-slice-reshare-prefix-put-slots : tie.Need-slice-reshare-prefix-put-slots
-slice-reshare-prefix-put-slots c = search needs
+slice-reshare-prefix-put-run : tie.Need-slice-reshare-prefix-put-run
+slice-reshare-prefix-put-run c = search needs
 
-slice-aggregate-put-slots : tie.Need-slice-aggregate-put-slots
-slice-aggregate-put-slots c = sym (length-take-le _ _ (search needs))
+slice-aggregate-put-run : tie.Need-slice-aggregate-put-run
+slice-aggregate-put-run c = sym (length-take-le _ _ (search needs))
 
+-- the time is a u32, wherever that is asked
 small : (z : tie.After-log-size) → z .before .before .before .before .before .before .args .kept .t ≤ 4294967295
 small z = search needs
 
--- what the run did, wherever that is asked
-bounds : (r : tie.After-run-part) → (r .run-part .result .done ≤ 1024) × (r .run-part .result .done * r .before .before .before .before .before .before .before .before .before .before .before .before .before .args .kept .n ≤ r .before .before .before .before .before .before .before .log-size .result) × (r .before .before .before .before .before .before .before .before .before .before .before .before .before .args .kept .t + r .run-part .result .done ≤ max (r .before .before .before .before .before .before .before .before .before .before .before .before .before .args .kept .t) 16777216)
-bounds r =
+put-run-requires : tie.Need-put-run-requires
+put-run-requires c κs = search needs
+
+add-t27 : tie.Need-add-t27
+add-t27 c =
+    let r = c .before .before .before .before .before .before .before .before .before in
     let z = r .before .before .before .before .before .before .before in
     let l = r .before .before .before .before .before in
     let x = r .before .before .before .before .before .before .before .before .before .before .before .before .before in
     let room : z .log-size .result ≤ length (x .args .log .now) = omega (arith, z .log-size .ensures .1, x .pre .1 .3) in
-    ran-bounds (x .args .kept) (x .args .requirements .now) (x .args .periods .now) (x .args .counts .now) (x .args .log .now) (x .args .slots) (x .pre .0 .0) (x .pre .1 .0) (z .log-size .result) (z .log-size .ensures .0) room (l .clear .last .0) (l .clear .ensures) (r .run-part .result) (r .run-part .ensures .0)
-
-put-slots-requires : tie.Need-put-slots-requires
-put-slots-requires c κs =
-    let r = c .before .before .before .before .before .before in
-    let b = bounds r in
-    let whole = slice-aggregate-put-slots c in
-    let fits : r .before .before .before .before .before .before .before .before .before .before .before .before .before .args .kept .t + r .run-part .result .done ≤ 4294967295 = omega (arith, b .2, small (r .before .before .before .before .before .before .before)) in
-    (b .0, r .before .before .before .before .before .before .before .before .before .before .before .before .before .pre .0 .1, omega arith, fits)
-
-put-end-requires : tie.Need-put-end-requires
-put-end-requires c κs = search needs
-
-add-t30 : tie.Need-add-t30
-add-t30 c =
-    let r = c .before .before .before .before .before .before .before .before .before .before .before .before .before in
-    let b = bounds r in
-    let fits : r .before .before .before .before .before .before .before .before .before .before .before .before .before .args .kept .t + r .run-part .result .done < 4294967296 = omega (arith, b .2, small (r .before .before .before .before .before .before .before)) in
+    let b = ran-bounds (x .args .kept) (x .args .requirements .now) (x .args .periods .now) (x .args .counts .now) (x .args .slots) (x .pre .0 .0) (x .pre .1 .0) (x .args .log .now) (z .log-size .result) (z .log-size .ensures .0) room (l .clear .last .0) (l .clear .ensures) (r .run-part .result) (r .run-part .ensures .0) in
+    let fits : x .args .kept .t + r .run-part .result .done < 4294967296 = omega (arith, b .2, small z) in
     record { fits = fits }
 
 same-length : tie.Need-same-length
@@ -66,15 +55,15 @@ same-length-3 c = search needs
 returns : tie.Need-returns
 returns c =
     let p = c .before .before in
-    let w = c .before .before .before .before .before .before in
-    let r = c .before .before .before .before .before .before .before .before .before .before .before .before .before in
+    let r = c .before .before .before .before .before .before .before .before .before in
     let z = r .before .before .before .before .before .before .before in
     let l = r .before .before .before .before .before in
     let x = r .before .before .before .before .before .before .before .before .before .before .before .before .before in
     let room : z .log-size .result ≤ length (x .args .log .now) = omega (arith, z .log-size .ensures .1, x .pre .1 .3) in
-    let said = ran-text (x .args .kept) (x .args .requirements .now) (x .args .periods .now) (x .args .counts .now) (x .args .log .now) (x .args .slots) (x .pre .0 .0) (x .pre .1 .0) (z .log-size .result) (z .log-size .ensures .0) room (l .clear .last .0) (l .clear .ensures) (r .run-part .result) (r .run-part .ensures .0) _ (r .run-part .ensures .1 .1) (x .args .out .now) (w .put-slots .last .0) (p .put-end .last .0) (w .put-slots .result) (p .put-end .result) (w .put-slots .ensures .0) (w .put-slots .ensures .1 .0) (p .put-end .ensures .0) (p .put-end .ensures .1) in (
-      ran-session (x .args .kept) (x .args .requirements .now) (x .args .periods .now) (x .args .counts .now) (x .args .log .now) (x .args .slots) (x .pre .0 .0) (x .pre .1 .0) (z .log-size .result) (z .log-size .ensures .0) room (l .clear .last .0) (l .clear .ensures) (r .run-part .result) (r .run-part .ensures .0) (r .run-part .last .1 .1 .1 .0) (r .run-part .ensures .1 .0),
-      (said .0, (said .1, x .pre .0 .1)),
+    let whole = slice-aggregate-put-run (p .before) in
+    let text = ran-text (x .args .kept) (x .args .requirements .now) (x .args .periods .now) (x .args .counts .now) (x .args .slots) (x .pre .0 .0) (x .pre .1 .0) (x .args .log .now) (z .log-size .result) (z .log-size .ensures .0) room (l .clear .last .0) (l .clear .ensures) (r .run-part .result) (r .run-part .ensures .0) _ (r .run-part .ensures .1 .1) (x .pre .0 .1) (small z) (omega (arith, whole)) in (
+      ran-session (x .args .kept) (x .args .requirements .now) (x .args .periods .now) (x .args .counts .now) (x .args .slots) (x .pre .0 .0) (x .pre .1 .0) (x .args .log .now) (z .log-size .result) (z .log-size .ensures .0) room (l .clear .last .0) (l .clear .ensures) (r .run-part .result) (r .run-part .ensures .0) (r .run-part .last .1 .1 .1 .0) (r .run-part .ensures .1 .0),
+      (p .put-run .ensures .0 ∙ ap (sets (x .args .out .now) 0) text, (p .put-run .ensures .1 ∙ ap length text, x .pre .0 .1)),
     )
 
 pub ran-spec : {M : Type 1} → statement M
@@ -84,11 +73,10 @@ ran-spec =
     log-size-requires
     clear-requires
     run-part-requires
-    slice-reshare-prefix-put-slots
-    slice-aggregate-put-slots
-    put-slots-requires
-    put-end-requires
-    add-t30
+    slice-reshare-prefix-put-run
+    slice-aggregate-put-run
+    put-run-requires
+    add-t27
     same-length
     same-length-2
     same-length-3
