@@ -20,7 +20,7 @@ sessionOf k es ps ks =
 abbrev pub logMost : ℕ
 logMost = 65536
 
--- The longest answer: 1,024 slots of 64 tasks that all run, and the line of a refusal.
+-- No answer is longer: 1,024 lines that name 64 tasks each, and the line of a refusal.
 abbrev pub answerMost : ℕ
 answerMost = 144391
 

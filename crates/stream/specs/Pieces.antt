@@ -8,7 +8,7 @@ use Rattle.writing.specs.AnswerLines.{lineFeed}
 use Rattle.frames.specs.Session.{Session}
 use Rattle.frames.specs.Replies.{Reply}
 use Rattle.frames.specs.Transcript.{answerTo}
-use Rattle.frames.specs.Stream.{withByte, finish}
+use Rattle.frames.specs.Stream.{withByte}
 use Rattle.frames.specs.Keeping.{sessionOf, hasRoom, answerMost}
 use Rattle.stream.specs.declared.Waiting.{Waiting}
 

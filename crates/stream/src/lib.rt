@@ -17,7 +17,7 @@ const LINE_FEED: u8 = 0x0A;
 // One byte past the longest line: of a longer one no more is of use.
 const LINE_MOST: usize = 519;
 
-// The longest answer: 1,024 slots of 64 tasks that all run, and the line of a refusal.
+// No answer is longer: 1,024 lines that name 64 tasks each, and the line of a refusal.
 const ANSWER_MOST: usize = 144391;
 
 // What is kept while more input is waited for, beside the lists and the line's bytes.
