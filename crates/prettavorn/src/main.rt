@@ -158,6 +158,7 @@ fn rounds(
 ) -> Turn
     requires { ⌜ isRoomy waiting (now requirements) (now periods) (now counts) (now log) (now line) ≡ true ⌝ }
     requires { ⌜ answerMost ≤ length (now out) ⌝ }
+    ensures { λ r. ⌜ isRoomy (r .waiting) (now (requirements .exit)) (now (periods .exit)) (now (counts .exit)) (now (log .exit)) (now (line .exit)) ≡ true ⌝ }
 {
     let mut kept = waiting;
     let mut turns = u64::MAX;
@@ -186,6 +187,7 @@ fn finish(
     line: &[u8],
     out: &mut [u8],
 )
+    requires { ⌜ isRoomy waiting (now requirements) (now periods) (now counts) (now log) (now line) ≡ true ⌝ }
     requires { ⌜ answerMost ≤ length (now out) ⌝ }
 {
     let last = stream::finish(waiting, requirements, periods, counts, log, line, out);

@@ -12,7 +12,7 @@ rounds-requires c κs =
     (start-roomy (a .requirements .now) (a .periods .now) (a .counts .now) (a .log .now) (a .line .now) (x .pre .0 .0) (x .pre .0 .1) (x .pre .0 .2) (x .pre .0 .3) (x .pre .1 .0), x .pre .1 .1)
 
 finish-requires : tie.Need-finish-requires
-finish-requires c κs = omega (arith, c .before .before .before .before .before .before .before .before .before .before .before .before .before .before .before .before .before .before .before .before .before .before .before .before .before .before .before .before .before .before .before .before .before .before .before .before .before .pre .1 .1)
+finish-requires c κs = (c .before .before .before .before .before .before .before .before .before .before .before .before .before .before .before .before .before .before .before .before .before .before .rounds .ensures, omega (arith, c .before .before .before .before .before .before .before .before .before .before .before .before .before .before .before .before .before .before .before .before .before .before .before .before .before .before .before .before .before .before .before .before .before .before .before .before .before .pre .1 .1))
 
 same-length : tie.Need-same-length
 same-length c = search needs
