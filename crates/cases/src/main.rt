@@ -1,4 +1,6 @@
 // The cases of document 01 that are run: each is put to a proved entry, and the answer is written in words.
+#![tactic(auto)]
+
 mod ask;
 mod show;
 

@@ -1,5 +1,7 @@
 // Document 01's entries for a host program, which links them as a static library: both doors. An answer is one number
 // (specs/Codes.antt), so that nothing but numbers and lent lists crosses over.
+#![tactic(auto)]
+
 ghost use Rattle.std.specs.Prelude.{◌≡◌, ◌<◌, ◌≤◌, set};
 ghost use Rattle.std.proofs.lemmas.List.Edits.{sets};
 ghost use Rattle.rule.specs.Limits.{slots_most};

@@ -1,4 +1,6 @@
 // The field of an accepted set, laid out once for all its slots.
+#![tactic(auto)]
+
 ghost use Rattle.std.specs.Prelude.{◌≡◌};
 ghost use Rattle.field.specs.LayOut.{filled_with, lay_out};
 

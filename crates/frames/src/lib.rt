@@ -1,4 +1,6 @@
 // Frames: lines of hexadecimal, and the answers to them.
+#![tactic(auto)]
+
 ghost use Rattle.std.specs.Prelude.{cond, ◌&&◌, ◌≡◌, ◌*◌, ◌<◌, ◌≤◌, ltb, leb, length, take};
 ghost use Rattle.std.proofs.lemmas.List.Edits.{sets};
 ghost use Rattle.rule.specs.Limits.{slots_most};

@@ -1,4 +1,6 @@
 // A listing of standings: refusals 1 to 8, or a byte for each task.
+#![tactic(auto)]
+
 ghost use Rattle.std.specs.Prelude.{◌≡◌, ◌≤◌, length};
 ghost use Rattle.rule.specs.Outcomes.{admission, listing};
 ghost use Rattle.listing.specs.Marks.{mark_by, marks_by};

@@ -1,4 +1,6 @@
 // Numbers: Euclid's rule, least common multiples under a limit, lowest terms.
+#![tactic(auto)]
+
 ghost use Rattle.std.specs.Prelude.{true, false, ◌≡◌, ℕ, ◌<◌, length, get_or};
 ghost use Rattle.numbers.specs.Divide.{gcd as gcd_of, IsGcd, lowest_terms};
 ghost use Rattle.numbers.specs.Multiple.{lcm, lcm_all, within};

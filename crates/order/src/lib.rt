@@ -1,4 +1,6 @@
 // The order of two tasks at a time, by their strings.
+#![tactic(auto)]
+
 ghost use Rattle.std.specs.Prelude.{◌≡◌, ◌^◌, ◌<◌, ◌≤◌, pos, ◌-ℤ◌};
 ghost use Rattle.rule.specs.Limits.{multiple_most, time_most};
 ghost use Rattle.rule.specs.Task as task;

@@ -1,4 +1,6 @@
 // Frames on standard input, answers on standard output. The proved library decides what is written; here is only input and output.
+#![tactic(auto)]
+
 ghost use Rattle.std.specs.Prelude.{true, ◌≡◌, ◌<◌, ◌≤◌, length};
 ghost use Rattle.frames.specs.Keeping.{log_most, answer_most};
 ghost use Rattle.stream.specs.Pieces.{line_most, is_roomy};

@@ -1,4 +1,6 @@
 // What a line of hexadecimal asks.
+#![tactic(auto)]
+
 ghost use Rattle.std.specs.Prelude.{◌≡◌};
 ghost use Rattle.digits.specs.Digits.{bytes_of};
 ghost use Rattle.reading.specs.Kinds.{well_formed, admit_frame, run_frame, list_frame, read};

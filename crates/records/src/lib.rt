@@ -1,5 +1,7 @@
 // The second door: admission and one slot for a set that is lent as a list of records. The records are taken apart
 // into the three lists of the first door, which answers.
+#![tactic(auto)]
+
 ghost use Rattle.std.specs.Prelude.{◌≡◌, List, ◌<◌, ◌≤◌, length};
 ghost use Rattle.rule.specs.Places.{at, each};
 ghost use Rattle.rule.specs.Outcomes.{admission, slot as slot_of};

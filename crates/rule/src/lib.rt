@@ -1,5 +1,7 @@
 // The answers of the public entries, and the small words of the rule. What each case stands for in document 01
 // is set out in specs/Answers.antt.
+#![tactic(auto)]
+
 ghost use Rattle.std.specs.Prelude.{◌≡◌};
 ghost use Rattle.rule.specs.Answers.{number_of};
 ghost use Rattle.rule.specs.Limits.{bounded_by, valid};

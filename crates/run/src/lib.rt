@@ -1,4 +1,6 @@
 // Several slots of one set.
+#![tactic(auto)]
+
 ghost use Rattle.std.specs.Prelude.{◌≡◌, ◌++◌, ◌-◌, ◌*◌, ◌≤◌, eqb, length, take, drop};
 ghost use Rattle.rule.specs.Limits.{slots_most};
 ghost use Rattle.rule.specs.Sets.{units_in_use};

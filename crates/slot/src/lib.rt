@@ -1,4 +1,6 @@
 // One slot: refusals 1 to 9, the choice, the counts and the bytes.
+#![tactic(auto)]
+
 ghost use Rattle.std.specs.Prelude.{◌≡◌, ℕ, ◌+◌, ◌-◌, ◌<◌, ◌≤◌, ltb, length, set, true, ◌&&◌};
 ghost use Rattle.rule.specs.Limits.{time_most, multiple_most, bounded_by, within};
 ghost use Rattle.rule.specs.Places.{at, bit, each};

@@ -1,5 +1,7 @@
 // How the places of a laid-out field stand at a time: refusals 7 and 8, and each place's standing and class. What is not laid out as a
 // field is refused before that, by the numbers 1 to 4.
+#![tactic(auto)]
+
 ghost use Rattle.std.specs.Prelude.{true, not, cond, ◌≡◌, ℕ, ◌*◌, ◌<◌, ◌≤◌, ◌^◌, ltb, length};
 ghost use Rattle.rule.specs.declared.Outcome.TheVariants.{Refused};
 ghost use Rattle.rule.specs.Limits.{tasks_most, units_most};

@@ -1,4 +1,6 @@
 // The program's input as it comes, in pieces of any size: lines are cut from it, and each is answered at its line feed.
+#![tactic(auto)]
+
 ghost use Rattle.std.specs.Prelude.{true, ◌&&◌, ◌≡◌, ◌+◌, ◌-◌, ◌<◌, ◌≤◌, ltb, leb, length, take, drop};
 ghost use Rattle.std.proofs.lemmas.List.Edits.{sets};
 ghost use Rattle.frames.specs.Stream.{with_byte, feed as feed_of};

@@ -1,5 +1,7 @@
 // Writing: the lines of an answer. Each line is stored as far as there is room, and the place after it is that of the whole line, so that
 // a caller can tell. Where a place is given it is bounded only so that no sum of places is too large for a usize.
+#![tactic(auto)]
+
 ghost use Rattle.std.specs.Prelude.{◌≡◌, [], ◌∷◌, ◌+◌, ◌*◌, ◌≤◌, eqb, length};
 ghost use Rattle.std.proofs.lemmas.List.Edits.{sets};
 ghost use Rattle.rule.specs.Answers.{carried_by};
