@@ -1,12 +1,11 @@
 -- What a slot says of a field depends on its entries below its size alone. Assumes nothing.
-use mathlib.Core.Path.{◌≡◌, refl, sym, ap, ◌∙◌}
-use mathlib.Core.Bool.{Bool, true, false, not, ◌&&◌, ◌||◌}
-use Prim.Native.Nat.{ℕ, ◌+◌, ◌<◌}
-use lib.Dec.{ltb}
+use mathlib.Core.Path.{◌≡◌, ap}
+use mathlib.Core.Bool.{true, not, ◌&&◌}
+use Prim.Native.Nat.{ℕ, ◌<◌}
 use Rattle.rule.specs.Places.{count}
-use Rattle.rule.specs.Task.{Entry, compare}
+use Rattle.rule.specs.Task.{Entry}
 use Rattle.rule.specs.Sets.{Field}
-use Rattle.rule.specs.Slot.{tnegru, urgent, contending, urgents, not_tnegrus, goes_first, precedes, contenders_before, chosen}
+use Rattle.rule.specs.Slot.{tnegru, urgent, contending, urgents, not_tnegrus, precedes, contenders_before, chosen}
 use Rattle.rule.proofs.Places.{count_ext, count_lt}
 use Rattle.rule.proofs.Ordering.{precedes_irreflexive}
 use Rattle.rule.proofs.Tests.{both_true}

@@ -12,7 +12,7 @@ use lib.IntN.{ℤ, pos, ◌-ℤ◌}
 use lib.ListN.{length}
 use Rattle.rule.specs.declared.Spare.{Spare}
 use Rattle.rule.specs.declared.Spare.TheVariants.{Nobody, Task}
-use Rattle.rule.specs.Places.{at, bit, sum, count}
+use Rattle.rule.specs.Places.{at, sum, count}
 use Rattle.rule.specs.Sets.{units_in_use, spare, task_at, spare_entry, field_with, field}
 use Rattle.rule.specs.Layout.{placed, requirement_of, period_of, places_of}
 use Rattle.rule.proofs.Lags.{counted}

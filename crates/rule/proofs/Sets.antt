@@ -1,13 +1,13 @@
 -- What holds of a set that passes refusals 2 to 6. Every period divides L, so each task's share e·L/p is exact and between 0 and L; the
 -- load is the sum of the shares, and M is the least number of units that covers it, so the room is below L and the spare's weight below 1.
-use mathlib.Core.Bool.{Bool, true, false, cond, not, and-eq-true_iff}
+use mathlib.Core.Bool.{Bool, true, false, cond, not}
 use mathlib.Core.List.{List}
 use mathlib.Core.Path.{◌≡◌, refl, ap}
-use Prim.Native.Nat.{ℕ, ◌+◌, ◌-◌, ◌*◌, ◌/◌, ◌≤◌, ◌<◌, ◌∣◌}
+use Prim.Native.Nat.{ℕ, ◌+◌, ◌*◌, ◌/◌, ◌≤◌, ◌<◌, ◌∣◌}
 use native.Mathlib.Nat.{div-mul_cancel, dvd-mul_left_of_dvd, lt_of_mul-lt-mul_right, mul_comm, mul-lt-mul_of_pos_right, mul-pos, zero-mul}
 use native.Mathlib.Omega.{arith}
-use borrow.Author.Tests.{leb-true, ltb-true, ltb-false, not-false}
-use lib.Dec.{ltb, leb}
+use borrow.Author.Tests.{ltb-true, ltb-false, not-false}
+use lib.Dec.{ltb}
 use lib.ListN.{length}
 use Rattle.numbers.specs.Divide.{gcd, lowest_terms}
 use Rattle.numbers.proofs.Common.{each_divides_lcm_all, lcm_all_pos}

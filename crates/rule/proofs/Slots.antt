@@ -9,9 +9,9 @@ use lib.ListN.{length}
 use Rattle.rule.specs.declared.Outcome.TheVariants.{Done, Refused}
 use Rattle.rule.specs.declared.Refusal.{Refusal}
 use Rattle.rule.specs.Limits.{time_most}
-use Rattle.rule.specs.Places.{at, bit, each}
+use Rattle.rule.specs.Places.{at, bit}
 use Rattle.rule.specs.Refusals.{Verdict, passed, refused, first, set_checks, slot_checks}
-use Rattle.rule.specs.Outcomes.{SlotAfter, slot_by, slot, runs_at, counts_after, bytes_after}
+use Rattle.rule.specs.Outcomes.{slot_by, slot, runs_at, counts_after, bytes_after}
 use Rattle.rule.proofs.Places.{length_each}
 use Rattle.rule.proofs.Refusals.{NoneHolds, none, and, given_first, first_none, slot_refusal}
 

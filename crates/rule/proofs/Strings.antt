@@ -1,7 +1,7 @@
 -- Every string ends within p symbols, and a comparison as a derivation: the symbols differ here, both end here, or they are
 -- the same and the comparison goes on. A derivation has one answer, there always is one, and `compare` answers it: so
 -- whoever proves an engine right derives, and does not compute. Assumes nothing.
-use mathlib.Core.Path.{◌≡◌, refl, sym, ap, ◌∙◌, subst}
+use mathlib.Core.Path.{◌≡◌, refl, sym, ap, ◌∙◌}
 use mathlib.Core.Logic.{◌≢◌}
 use mathlib.Core.List.{List, [], ◌∷◌}
 use Prim.Native.Nat.{ℕ, zero, suc, ◌+◌, ◌-◌, ◌*◌, ◌/◌, ◌%◌, ◌<◌, ◌≤◌}
@@ -46,6 +46,7 @@ pub data Ended : List Symbol → Type 0 where
 
 ended : (e p n i : ℕ) → EndsBy (symbol e p) n i → Ended (symbols_from n e p i) × (length (symbols_from n e p i) ≤ n)
 unfolding symbols_from go_on
+ended e p zero i w = elim w [ ]
 ended e p (suc n) i w = go (symbol e p i) refl w (ended e p n (suc i))
   where
     rest : List Symbol
@@ -102,6 +103,8 @@ module _ (e p e' p' : ℕ) where
 
   derive : (n n' i : ℕ) → EndsBy (symbol e p) n i → EndsBy (symbol e' p') n' i → Go n n' i
   unfolding symbols_from go_on compare_strings or_later higher
+  derive zero _ i v w = elim v [ ]
+  derive (suc n) zero i v w = elim w [ ]
   derive (suc n) (suc n') i v w = go (symbol e p i) (symbol e' p' i) refl refl v w (derive n n' (suc i))
     where
       xs : List Symbol

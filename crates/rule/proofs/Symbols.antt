@@ -2,10 +2,10 @@
 -- r + e compares with p; just before a multiple of p it is 0. Assumes nothing.
 use mathlib.Core.Path.{◌≡◌, refl, sym, ap, ◌∙◌, subst}
 use mathlib.Core.Logic.{◌≢◌}
-use Prim.Native.Nat.{ℕ, zero, suc, ◌+◌, ◌-◌, ◌*◌, ◌/◌, ◌%◌, ◌<◌, ◌≤◌}
+use Prim.Native.Nat.{ℕ, suc, ◌+◌, ◌-◌, ◌*◌, ◌/◌, ◌%◌, ◌<◌, ◌≤◌}
 use native.Mathlib.Nat.{div-add-mod, mod-lt, lt_of_mul-lt-mul_left, le_of_suc-le-suc}
 use native.Mathlib.Omega.{arith}
-use lib.IntN.{ℤ, pos, ◌-ℤ◌}
+use lib.IntN.{pos, ◌-ℤ◌}
 use Rattle.rule.specs.declared.Symbol.{Symbol}
 use Rattle.rule.specs.declared.Symbol.TheVariants.{Minus, Zero, Plus}
 use Rattle.rule.specs.Task.{sign, symbol}

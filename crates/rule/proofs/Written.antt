@@ -1,11 +1,10 @@
 -- A list that a loop writes place by place: after i turns its first i places have f, and the rest is as it was. Assumes nothing.
-use mathlib.Core.Path.{◌≡◌, refl, sym, ap, ◌∙◌}
-use mathlib.Core.List.{List, [], ◌∷◌, ◌++◌}
+use mathlib.Core.Path.{◌≡◌, refl, ap}
+use mathlib.Core.List.{List, [], ◌∷◌}
 use Prim.Native.Nat.{ℕ, zero, suc, ◌≤◌, ◌<◌}
 use native.Mathlib.Omega.{arith}
-use lib.ListN.{length, set, take, drop}
+use lib.ListN.{length, set, take}
 use Rattle.rule.specs.Places.{at, each}
-use Rattle.rule.proofs.Places.{each_ext}
 
 unfoldable pub written : ℕ → (ℕ → ℕ) → List ℕ → List ℕ
 written zero f xs = xs

@@ -1,8 +1,8 @@
 -- Document 01, "Cases (P: to be proved of the definitions)": P1 to P9 as rows of one table, and one theorem over it.
 use Rattle.std.specs.Prelude.{◌≡◌, refl, List, [], ◌∷◌, map, ℕ}
 use Rattle.rule.specs.declared.Symbol.{Symbol}
-use Rattle.rule.specs.declared.Symbol.TheVariants.{Minus, Zero, Plus}
-use Rattle.rule.specs.declared.Order.TheVariants.{First, Second, Tie}
+use Rattle.rule.specs.declared.Symbol.TheVariants.{Minus, Zero}
+use Rattle.rule.specs.declared.Order.TheVariants.{Second, Tie}
 use Rattle.rule.specs.declared.Refusal.TheVariants.{Record, Load, Lag, Stuck}
 use Rattle.rule.specs.declared.Spare.{Spare}
 use Rattle.rule.specs.declared.Spare.TheVariants.{Nobody, Task}

@@ -1,5 +1,5 @@
 -- The public entries as total functions: for every input the answer and every lent list afterwards.
-use Rattle.std.specs.Prelude.{Bool, true, false, List, [], ◌∷◌, ◌++◌, ℕ, zero, suc, ◌+◌, length, take, drop}
+use Rattle.std.specs.Prelude.{Bool, List, ◌++◌, ℕ, zero, suc, ◌+◌, length, take, drop}
 use Rattle.rule.specs.declared.Order.{Order}
 use Rattle.rule.specs.declared.Accepted.{Accepted}
 use Rattle.rule.specs.declared.Admission.{Admission}

@@ -1,11 +1,11 @@
 -- Document 01, "Refusals": a check for each line of its table, and the first that holds.
-use Rattle.std.specs.Prelude.{Bool, true, false, not, cond, ◌||◌, List, [], ◌∷◌, ◌++◌, ℕ, suc, ◌*◌, ◌-◌, ltb, leb, eqb, length}
+use Rattle.std.specs.Prelude.{Bool, false, not, cond, ◌||◌, List, [], ◌∷◌, ◌++◌, ℕ, suc, ◌*◌, ◌-◌, ltb, leb, eqb, length}
 use Rattle.rule.specs.declared.Refusal.{Refusal}
 use Rattle.rule.specs.declared.Refusal.TheVariants.{Lengths, Tasks, Units, Record, Multiple, Load, Time, Lag, Stuck, Slots}
 use Rattle.rule.specs.Limits.{tasks_most, units_most, multiple_most, time_most, slots_most, within, valid}
 use Rattle.rule.specs.Places.{at, sum, lowest}
 use Rattle.rule.specs.Task.{fair}
-use Rattle.rule.specs.Sets.{multiple, load, units_in_use, Field, field}
+use Rattle.rule.specs.Sets.{multiple, load, units_in_use, field}
 use Rattle.rule.specs.Slot.{urgents, not_tnegrus}
 
 -- A line of the table: when it is given, and the refusal with what it carries.

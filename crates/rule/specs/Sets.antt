@@ -1,6 +1,6 @@
 -- Document 01, "Records, time, counts": L, the load, M, the spare, and the field of a set at a time.
-use Rattle.std.specs.Prelude.{Bool, true, false, cond, List, ℕ, suc, ◌*◌, ◌/◌, ◌-◌, ltb, pos, ◌-ℤ◌, length}
-use Rattle.numbers.specs.Divide.{gcd, lowest_terms}
+use Rattle.std.specs.Prelude.{cond, List, ℕ, suc, ◌*◌, ◌/◌, ◌-◌, ltb, pos, ◌-ℤ◌, length}
+use Rattle.numbers.specs.Divide.{lowest_terms}
 use Rattle.numbers.specs.Multiple.{lcm_all}
 use Rattle.numbers.specs.Round.{round_up}
 use Rattle.rule.specs.declared.Spare.{Spare}

@@ -1,5 +1,5 @@
 -- Document 01, "Records, time, counts" and "The rule of a slot", as far as they speak of one task or of two.
-use Rattle.std.specs.Prelude.{Bool, true, false, ◌&&◌, List, [], ◌∷◌, ℕ, zero, suc, ◌*◌, ◌/◌, ℤ, pos, negsuc, neg_ℤ, ◌-ℤ◌, ◌*ℤ◌}
+use Rattle.std.specs.Prelude.{Bool, ◌&&◌, List, [], ◌∷◌, ℕ, zero, suc, ◌*◌, ◌/◌, ℤ, pos, negsuc, neg_ℤ, ◌-ℤ◌, ◌*ℤ◌}
 use Rattle.std.specs.Int.Signed.{lt_z}
 use Rattle.rule.specs.declared.Symbol.{Symbol}
 use Rattle.rule.specs.declared.Symbol.TheVariants.{Minus, Zero, Plus}
