@@ -1,22 +1,22 @@
 -- One slot of an accepted set whose counts have a plan: every lag is within its bounds, at most M are urgent and at least M are not
 -- tnegru, so the choice follows the rule, and the counts after it have a plan again. Assumes nothing.
 use mathlib.Core.Path.{◌≡◌, refl, sym, ap, ◌∙◌, subst}
-use mathlib.Core.Logic.{◌⊎◌, inl, inr, ◌≢◌}
-use mathlib.Core.Bool.{Bool, true, false, not, true≢false, false≢true}
+use mathlib.Core.Logic.{◌≢◌}
+use mathlib.Core.Bool.{Bool, true, false, not, true≢false}
 use mathlib.Core.List.{List}
-use Prim.Native.Nat.{ℕ, zero, suc, ◌+◌, ◌-◌, ◌*◌, ◌≤◌, ◌<◌}
+use Prim.Native.Nat.{ℕ, suc, ◌+◌, ◌*◌, ◌≤◌, ◌<◌}
 use native.Mathlib.Omega.{arith}
-use borrow.Author.Tests.{leb-true, leb-false, le-leb, lt-leb, not-false}
-use lib.Dec.{ltb, leb}
+use borrow.Author.Tests.{leb-true, le-leb, lt-leb, not-false}
+use lib.Dec.{leb}
 use lib.ListN.{length}
 use Rattle.rule.specs.declared.Spare.{Spare}
 use Rattle.rule.specs.declared.Spare.TheVariants.{Nobody, Task}
 use Rattle.rule.specs.declared.Order.{Order}
 use Rattle.rule.specs.declared.Order.TheVariants.{First}
-use Rattle.rule.specs.Places.{at, bit, sum, count}
-use Rattle.rule.specs.Task.{Entry, fair, symbol, compare}
+use Rattle.rule.specs.Places.{at, bit, sum}
+use Rattle.rule.specs.Task.{fair, symbol, compare}
 use Rattle.rule.specs.Sets.{multiple, units_in_use, spare, Field, field}
-use Rattle.rule.specs.Slot.{tnegru, urgent, contending, urgents, not_tnegrus, goes_first, precedes, chosen}
+use Rattle.rule.specs.Slot.{tnegru, urgent, contending, urgents, not_tnegrus, precedes, chosen}
 use Rattle.rule.specs.Outcomes.{runs_at, counts_after}
 use Rattle.rule.proofs.Lags.{counted, Bounds, bounds_fair, tnegru_iff_next_lag, urgent_iff_next_lag, contending_iff_next_lag}
 use Rattle.rule.proofs.Places.{sum_ext, sum_add, length_each, at_each}
@@ -24,7 +24,7 @@ use Rattle.rule.proofs.Strings.{Compared, compare_derived}
 use Rattle.rule.proofs.Ordering.{precedes_asymmetric}
 use Rattle.rule.proofs.Choice.{IsChoice, chosen_is_choice}
 use Rattle.rule.proofs.Sets.{AcceptedSet}
-use Rattle.fair.proofs.Plan.{Tasks, Urgent, Tnegru, Contending, Follows, Plan, lag_bounds, count_sum, few_urgent, enough_others, plan_after}
+use Rattle.fair.proofs.Plan.{Tasks, Contending, Follows, Plan, lag_bounds, count_sum, few_urgent, enough_others, plan_after}
 use Rattle.rule.proofs.Placed.{size, requirement_at, period_at, count_at, field_size, field_entry, count_task, count_spare, at_places, sum_places}
 use Rattle.fair.proofs.Fields.{weight_at, fills}
 

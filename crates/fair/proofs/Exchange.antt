@@ -10,7 +10,7 @@ use Rattle.rule.specs.declared.Symbol.{Symbol}
 use Rattle.rule.specs.declared.Order.{Order}
 use Rattle.rule.specs.declared.Order.TheVariants.{First}
 use Rattle.rule.specs.Places.{sum}
-use Rattle.rule.proofs.Places.{sum_ext, sum_le, sum_lt, sum_bump, find}
+use Rattle.rule.proofs.Places.{sum_ext, sum_lt, sum_bump, find}
 use Rattle.rule.proofs.Strings.{Compared}
 use Rattle.fair.proofs.Walk.{Shape, Line, Stop, walk}
 

@@ -2,7 +2,7 @@
 -- spare's the room, and they add up to M-as-L. Assumes nothing.
 use mathlib.Core.Path.{◌≡◌, refl, sym, ◌∙◌}
 use mathlib.Core.List.{List}
-use Prim.Native.Nat.{ℕ, ◌+◌, ◌*◌, ◌/◌, ◌<◌}
+use Prim.Native.Nat.{ℕ, ◌*◌, ◌/◌, ◌<◌}
 use native.Mathlib.Nat.{mul_comm, mul-div_cancel', dvd-mul_left_of_dvd}
 use native.Mathlib.Omega.{arith}
 use lib.ListN.{length}
@@ -13,7 +13,7 @@ use Rattle.rule.specs.Sets.{multiple, load, units_in_use, room, spare}
 use Rattle.rule.proofs.Places.{sum_ext}
 use Rattle.rule.specs.Layout.{placed}
 use Rattle.rule.proofs.Placed.{placed_task, placed_spare, size, requirement_at, period_at, requirement_task, period_task, requirement_spare, period_spare, at_places, sum_places}
-use Rattle.rule.proofs.Sets.{AcceptedSet, SpareTask}
+use Rattle.rule.proofs.Sets.{AcceptedSet}
 use Rattle.fair.proofs.Plan.{Tasks}
 
 module _ (es ps : List ℕ) where

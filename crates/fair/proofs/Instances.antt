@@ -11,7 +11,6 @@ use Rattle.numbers.specs.Round.{round_up}
 use Rattle.rule.specs.declared.Spare.{Spare}
 use Rattle.rule.specs.declared.Spare.TheVariants.{Nobody, Task}
 use Rattle.rule.specs.declared.Accepted.{Accepted}
-use Rattle.rule.specs.declared.Admission.{Admission}
 use Rattle.rule.specs.declared.Admission.TheVariants.{Accepted as accepted, Refused as not_admitted}
 use Rattle.rule.specs.declared.Refusal.TheVariants.{Load}
 use Rattle.rule.specs.declared.Outcome.TheVariants.{Done}
@@ -23,7 +22,7 @@ use Rattle.rule.specs.Refusals.{first, differ, invalid_place, set_checks, admiss
 use Rattle.rule.specs.Outcomes.{admission_by, admission, acceptance, slot, run}
 use Rattle.rule.proofs.Choice.{IsChoice}
 use Rattle.rule.proofs.Refusals.{none, and}
-use Rattle.fair.specs.FromStart.{counts_at, stepped, zeros}
+use Rattle.fair.specs.FromStart.{counts_at, stepped}
 use Rattle.fair.specs.Table.{Table}
 use Rattle.fair.specs.Slots.{IsSlots}
 use Rattle.fair.proofs.NeverStuck.{FairAt, never_stuck, never_refused}

@@ -3,41 +3,35 @@
 -- the even lines at 0, and one after each slot. Assumes nothing.
 use mathlib.Core.Path.{◌≡◌, refl, sym, ap, ◌∙◌, subst}
 use mathlib.Core.Logic.{◌⊎◌, inl, inr, ⊎_elim}
-use mathlib.Core.Bool.{Bool, true, false, not, cond}
-use mathlib.Core.List.{List, [], ◌∷◌, ◌++◌}
-use Prim.Native.Nat.{ℕ, zero, suc, ◌+◌, ◌-◌, ◌*◌, ◌≤◌, ◌<◌}
-use native.Mathlib.Nat.{mul_left_comm, mul-div_cancel_left, mul_comm, le_trans}
+use mathlib.Core.Bool.{false, not, cond}
+use mathlib.Core.List.{List, []}
+use Prim.Native.Nat.{ℕ, zero, suc, ◌+◌, ◌*◌, ◌≤◌, ◌<◌}
 use native.Mathlib.Decide.{dec_lt}
 use native.Mathlib.Omega.{arith}
 use borrow.Author.Tests.{lt-ltb, le-ltb, lt-leb, eq-eqb}
-use lib.Dec.{ltb, leb, eqb}
+use lib.Dec.{ltb, eqb}
 use lib.IntN.{pos}
 use lib.ListN.{length}
-use Rattle.numbers.specs.Round.{round_up}
-use Rattle.numbers.proofs.Quotient.{round_up_exact}
-use Rattle.rule.specs.declared.Spare.{Spare}
-use Rattle.rule.specs.declared.Spare.TheVariants.{Nobody, Task}
 use Rattle.rule.specs.declared.Accepted.{Accepted}
 use Rattle.rule.specs.declared.Admission.TheVariants.{Accepted as accepted}
 use Rattle.rule.specs.declared.Outcome.TheVariants.{Done}
 use Rattle.rule.specs.Limits.{time_most}
-use Rattle.rule.specs.Places.{at, bit, sum, count, lowest, each}
-use Rattle.rule.specs.Task.{Entry, fair}
-use Rattle.rule.specs.Sets.{multiple, units_in_use, spare, Field, field}
+use Rattle.rule.specs.Places.{at, bit, sum, count}
+use Rattle.rule.specs.Task.{fair}
+use Rattle.rule.specs.Sets.{multiple, units_in_use, Field, field}
 use Rattle.rule.specs.Slot.{urgents, not_tnegrus, chosen}
-use Rattle.rule.specs.Refusals.{Verdict, passed, refused, first, lags, classes, times, unfair_at, unfair_place, differ, set_checks, admission_checks, slot_checks}
+use Rattle.rule.specs.Refusals.{Verdict, passed, refused, first, lags, classes, unfair_at, unfair_place, differ, set_checks, admission_checks, slot_checks}
 use Rattle.rule.specs.Outcomes.{admission_by, admission, runs_at, counts_after, bytes_after, slot_by, slot}
-use Rattle.rule.proofs.Lags.{counted}
-use Rattle.rule.proofs.Places.{sum_ext, sum_le, lowest_none, length_each, at_each}
+use Rattle.rule.proofs.Places.{lowest_none, length_each, at_each}
 use Rattle.rule.proofs.Refusals.{NoneHolds, none, and, none_first, first_append, first_none, same_length}
 use Rattle.rule.proofs.Sets.{AcceptedSet, accepted_set}
 use Rattle.fair.specs.Share.{share_down, share_up}
 use Rattle.fair.specs.FromStart.{zeros, counts_at, stepped}
 use Rattle.fair.proofs.Share.{share_whole}
 use Rattle.fair.proofs.Plan.{Plan, plan_at_0, down_or_up}
-use Rattle.rule.proofs.Placed.{size, requirement_at, period_at, count_at, field_size, requirement_task, period_task, count_task, count_spare, at_places, sum_places, task_place, no_spare_past, count_tasks}
+use Rattle.rule.proofs.Placed.{size, requirement_at, period_at, count_at, requirement_task, period_task, count_task, count_spare, at_places, task_place, no_spare_past, count_tasks}
 use Rattle.fair.proofs.Fields.{weight_at, fills}
-use Rattle.fair.proofs.Dealt.{counts_whole, counts_fit, place, entry, all_fair, urgents_fit, others_enough, is_choice, length_after, plan_next}
+use Rattle.fair.proofs.Dealt.{counts_whole, place, entry, all_fair, urgents_fit, others_enough, is_choice, plan_next}
 
 -- What is promised of a set at time t with the counts ks.
 pub record FairAt (es ps : List ℕ) (m t : ℕ) (ks : List ℕ) : Type 0 where

@@ -1,21 +1,18 @@
 -- One right choice: for records, time and counts that a slot does not refuse, every choice with the properties of the rule (all
 -- urgent tasks, no tnegru one, contenders in order, M in all) is the outcome's. Assumes nothing.
-use mathlib.Core.Path.{◌≡◌, refl, sym, ap, ◌∙◌, subst}
+use mathlib.Core.Path.{◌≡◌, sym, ap, ◌∙◌, subst}
 use mathlib.Core.Bool.{Bool, false}
-use mathlib.Core.List.{List, [], ◌∷◌, ◌++◌}
-use Prim.Native.Nat.{ℕ, ◌+◌, ◌≤◌, ◌<◌}
-use native.Mathlib.Omega.{arith}
+use mathlib.Core.List.{List}
+use Prim.Native.Nat.{ℕ, ◌+◌, ◌<◌}
 use borrow.Author.Tests.{ltb-false}
 use lib.Dec.{ltb}
 use lib.ListN.{length}
-use Rattle.rule.specs.declared.Outcome.{Outcome}
-use Rattle.rule.specs.declared.Outcome.TheVariants.{Done, Refused}
-use Rattle.rule.specs.declared.Refusal.{Refusal}
+use Rattle.rule.specs.declared.Outcome.TheVariants.{Done}
 use Rattle.rule.specs.Places.{at, bit, each}
-use Rattle.rule.specs.Sets.{units_in_use, Field, field}
+use Rattle.rule.specs.Sets.{units_in_use, field}
 use Rattle.rule.specs.Slot.{urgents, not_tnegrus, chosen}
-use Rattle.rule.specs.Refusals.{Check, Verdict, passed, refused, first, classes, set_checks, slot_checks}
-use Rattle.rule.specs.Outcomes.{SlotAfter, slot_by, slot, runs_at, counts_after, bytes_after}
+use Rattle.rule.specs.Refusals.{classes, set_checks, slot_checks}
+use Rattle.rule.specs.Outcomes.{slot, runs_at, counts_after, bytes_after}
 use Rattle.rule.proofs.Tests.{neither_true}
 use Rattle.rule.proofs.Places.{each_ext}
 use Rattle.rule.proofs.Refusals.{NoneHolds, none, and, first_none}

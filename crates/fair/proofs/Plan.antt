@@ -1,9 +1,9 @@
 -- A plan: lines in grains that start at the counts as they are and deal out M units for ever. The even lines are one at time
 -- 0; a plan bounds the counts and the classes now; and after a choice that follows the rule there is a plan again, by
 -- exchanging grains until it starts with that choice. Assumes nothing.
-use mathlib.Core.Path.{◌≡◌, refl, sym, ap, ◌∙◌, subst}
+use mathlib.Core.Path.{◌≡◌, sym, ap, ◌∙◌}
 use mathlib.Core.Logic.{◌⊎◌, inl, inr, ⊎_elim, ◌≢◌}
-use Prim.Native.Nat.{ℕ, zero, suc, ◌+◌, ◌-◌, ◌*◌, ◌≤◌, ◌<◌}
+use Prim.Native.Nat.{ℕ, suc, ◌+◌, ◌*◌, ◌≤◌, ◌<◌}
 use native.Mathlib.Nat.{eq-or-lt_of_le, eq-zero-or-pos, lt_of_not-le, le_refl, le_of_mul-le-mul_right, lt_of_mul-lt-mul_right, mul-le-mul_left, mul-le-mul_right}
 use native.Mathlib.Omega.{arith}
 use Rattle.numbers.proofs.Quotient.{le_of_products, lt_of_products}
@@ -13,7 +13,6 @@ use Rattle.rule.specs.Places.{sum}
 use Rattle.rule.specs.Task.{symbol}
 use Rattle.rule.proofs.Places.{sum_ext, sum_le, sum_add, sum_mul}
 use Rattle.rule.proofs.Strings.{Compared}
-use Rattle.fair.proofs.Walk.{Shape, Line}
 use Rattle.fair.specs.Share.{share_down, share_up}
 use Rattle.fair.proofs.Share.{down_bounds, up_bounds, up_near_down, up_grows, shape, even}
 use Rattle.fair.proofs.Exchange.{Lines, Aim, exchange}

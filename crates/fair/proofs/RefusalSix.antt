@@ -4,9 +4,9 @@
 use mathlib.Core.Path.{◌≡◌, refl, sym, ap, ◌∙◌, subst}
 use mathlib.Core.Logic.{◌↔◌}
 use mathlib.Core.Bool.{Bool, true, false, cond}
-use mathlib.Core.List.{List, [], ◌∷◌, ◌++◌}
+use mathlib.Core.List.{List, [], ◌∷◌}
 use Prim.Native.Nat.{ℕ, zero, suc, ◌+◌, ◌-◌, ◌*◌, ◌/◌, ◌≤◌, ◌<◌, ◌∣◌}
-use native.Mathlib.Nat.{mul-suc, mul_comm, mul_assoc, mul-div_cancel', mul-div_assoc, mul-zero, add-zero, add-suc, le_trans}
+use native.Mathlib.Nat.{mul-suc, mul-div_cancel', mul-div_assoc, mul-zero, add-zero, add-suc, le_trans}
 use native.Mathlib.Omega.{arith}
 use borrow.Author.Tests.{ltb-true, ltb-false, not-false}
 use lib.Dec.{ltb}
@@ -17,10 +17,10 @@ use Rattle.rule.specs.declared.Accepted.{Accepted}
 use Rattle.rule.specs.declared.Admission.TheVariants.{Accepted as accepted, Refused as not_admitted}
 use Rattle.rule.specs.Places.{at, bit, sum, count}
 use Rattle.rule.specs.Sets.{multiple, load}
-use Rattle.rule.specs.Refusals.{Verdict, passed, refused, first, loads, invalid_place, set_checks, admission_checks}
+use Rattle.rule.specs.Refusals.{passed, refused, first, loads, invalid_place, set_checks, admission_checks}
 use Rattle.rule.specs.Limits.{tasks_most, within}
 use Rattle.rule.specs.Outcomes.{admission_by, admission, runs_at, counts_after}
-use Rattle.rule.proofs.Places.{sum_ext, sum_le, sum_append, sum_swap, sum_const, at_each}
+use Rattle.rule.proofs.Places.{sum_le, sum_append, sum_swap, sum_const, at_each}
 use Rattle.rule.proofs.Refusals.{NoneHolds, none, and, none_first, first_append, same_length}
 use Rattle.rule.proofs.Sets.{AcceptedSet, accepted_set, ValidSet, valid_set, invalid_place_le, period_divides}
 use Rattle.rule.proofs.Limits.{within_numbers}

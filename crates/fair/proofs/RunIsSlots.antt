@@ -1,10 +1,10 @@
 -- A run is its slots: it equals so many single slots up to the first refusal, its log part by part, its counts, and how it ended. By
 -- induction on the slots: a done one writes its part, and the rest is a run on the rest of the log. Assumes nothing.
-use mathlib.Core.Path.{◌≡◌, refl, sym, ap, ◌∙◌, subst}
-use mathlib.Core.Logic.{◌⊎◌, inl, inr, ⊎_elim, ◌↔◌}
-use mathlib.Core.Bool.{Bool, true, false, not, ◌||◌}
+use mathlib.Core.Path.{◌≡◌, refl, sym, ap, ◌∙◌}
+use mathlib.Core.Logic.{◌⊎◌, inl, inr, ⊎_elim}
+use mathlib.Core.Bool.{not}
 use mathlib.Core.List.{List, [], ◌∷◌, ◌++◌}
-use Prim.Native.Nat.{ℕ, zero, suc, ◌+◌, ◌*◌, ◌≤◌, ◌<◌}
+use Prim.Native.Nat.{ℕ, zero, suc, ◌+◌, ◌*◌, ◌<◌}
 use native.Mathlib.Nat.{mul-zero, mul-suc, add_comm}
 use native.Mathlib.Omega.{arith}
 use lib.Dec.{eqb}
@@ -14,11 +14,9 @@ use borrow.Author.Tests.{eqb-true, not-false}
 use Rattle.rule.specs.declared.Outcome.{Outcome}
 use Rattle.rule.specs.declared.Outcome.TheVariants.{Done, Refused}
 use Rattle.rule.specs.declared.Refusal.{Refusal}
-use Rattle.rule.specs.Refusals.{Verdict, passed, refused, first, differ, run_checks}
-use Rattle.rule.specs.Outcomes.{SlotAfter, slot, bytes_after, RunAfter, stopped, one_more, after_slot, slots_from, run_by, run, runs_at}
-use Rattle.rule.specs.Places.{bit, each}
+use Rattle.rule.specs.Refusals.{passed, first, differ, run_checks}
+use Rattle.rule.specs.Outcomes.{SlotAfter, slot, RunAfter, stopped, one_more, after_slot, slots_from, run_by, run}
 use Rattle.rule.proofs.Tests.{neither_true}
-use Rattle.rule.proofs.Places.{length_each}
 use Rattle.rule.proofs.Refusals.{Given, given_first, NoneHolds, none, and, first_none}
 use Rattle.fair.specs.Slots.{slot_no, counts_no, IsSlots}
 use Rattle.rule.proofs.Slots.{done_bytes}

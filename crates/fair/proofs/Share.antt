@@ -1,8 +1,7 @@
 -- A task's share of the slots up to u, e·u/p rounded down and rounded up, counted in grains of which a slot has g: what the
 -- walk asks of such bounds follows from what a symbol says of the remainder. Assumes nothing.
 use mathlib.Core.Path.{◌≡◌, ap, ◌∙◌}
-use mathlib.Core.Logic.{◌≢◌}
-use Prim.Native.Nat.{ℕ, zero, suc, ◌+◌, ◌-◌, ◌*◌, ◌/◌, ◌%◌, ◌≤◌, ◌<◌}
+use Prim.Native.Nat.{ℕ, suc, ◌+◌, ◌*◌, ◌/◌, ◌%◌, ◌≤◌, ◌<◌}
 use native.Mathlib.Nat.{mul-le-mul_right, le_of_mul-le-mul_left, mul_left_comm, mul-div_cancel_left, dvd-mul_right}
 use native.Mathlib.Omega.{arith}
 use Rattle.numbers.proofs.Quotient.{le_of_products, down_and_remainder, down_greatest, up_least, up_le_suc_down, up_le_next, round_up_exact}

@@ -1,16 +1,16 @@
 -- The walk along two strings. A slot is cut into grains; a line says how many grains a task has had by each time, within its
 -- bounds. Where x's string does not beat y's, and x could give a grain and y take one, the walk keeps that so up to a slot in
 -- which x has room for one grain more and y has one to give: strings end, so it gets there. Assumes nothing.
-use mathlib.Core.Path.{◌≡◌, refl, sym, ap, ◌∙◌, subst}
+use mathlib.Core.Path.{◌≡◌, refl, sym, ◌∙◌, subst}
 use mathlib.Core.Logic.{◌⊎◌, inl, inr, ◌≢◌}
-use Prim.Native.Nat.{ℕ, zero, suc, ◌+◌, ◌≤◌, ◌<◌}
+use Prim.Native.Nat.{ℕ, suc, ◌+◌, ◌≤◌, ◌<◌}
 use native.Mathlib.Nat.{eq-or-lt_of_le, le_refl}
 use native.Mathlib.Decide.{dec_lt}
 use native.Mathlib.Omega.{arith}
 use Rattle.rule.specs.declared.Symbol.{Symbol}
 use Rattle.rule.specs.declared.Symbol.TheVariants.{Minus, Zero, Plus}
 use Rattle.rule.specs.declared.Order.{Order}
-use Rattle.rule.specs.declared.Order.TheVariants.{First, Second, Tie}
+use Rattle.rule.specs.declared.Order.TheVariants.{First, Tie}
 use Rattle.rule.specs.Task.{higher}
 use Rattle.rule.proofs.Symbols.{zero≢minus, zero≢plus, minus≢plus}
 use Rattle.rule.proofs.Strings.{Compared, differ, ended_both, same}

@@ -1,17 +1,15 @@
 -- A list of 65 that starts with one number everywhere and is written up to where another list ends, or to its own end, is that list
 -- filled up with the number. Assumes nothing.
-use mathlib.Core.Path.{◌≡◌, refl, sym, ap, ◌∙◌}
+use mathlib.Core.Path.{◌≡◌, sym, ◌∙◌}
 use mathlib.Core.List.{List}
 use Prim.Native.Nat.{ℕ, ◌+◌, ◌≤◌, ◌<◌}
 use native.Mathlib.Numerals.{add-one}
-use native.Mathlib.Omega.{arith}
 use borrow.Author.Tests.{le-ltb}
-use lib.Dec.{ltb}
-use lib.ListN.{length, replicate, length-replicate, get_or-replicate}
+use lib.ListN.{length, replicate, get_or-replicate}
 use Rattle.rule.specs.declared.Spare.{Spare}
 use Rattle.rule.specs.declared.Spare.TheVariants.{Nobody, Task}
 use Rattle.rule.specs.Layout.{placed, requirement_of, period_of, places_of}
-use Rattle.rule.specs.Places.{at, each}
+use Rattle.rule.specs.Places.{at}
 use Rattle.rule.proofs.Written.{written, written_rest}
 use Rattle.field.specs.LayOut.{filled_with, lay_out}
 

@@ -1,7 +1,7 @@
 -- What `lay_out` lays out of a set, up to its size, are the requirements and the periods of the set's field. Assumes nothing.
 use mathlib.Core.Path.{◌≡◌}
 use mathlib.Core.List.{List}
-use Prim.Native.Nat.{ℕ, suc, ◌≤◌}
+use Prim.Native.Nat.{ℕ, ◌≤◌}
 use native.Mathlib.Omega.{arith}
 use lib.ListN.{length, take}
 use Rattle.rule.specs.declared.Spare.{Spare}

@@ -1,6 +1,6 @@
 -- The sign of an integer by the code's tests; a difference of three numbers by the code's bits; and the numbers that make
 -- up a symbol, all of which fit 63 bits since e·(i+1) does. Assumes nothing.
-use mathlib.Core.Path.{◌≡◌, refl, sym, ap, ◌∙◌, subst}
+use mathlib.Core.Path.{◌≡◌, refl, sym, subst}
 use mathlib.Core.Bool.{Bool, true, false, cond}
 use Prim.Native.Nat.{ℕ, zero, suc, ◌+◌, ◌-◌, ◌*◌, ◌/◌, ◌<◌, ◌≤◌, ◌^◌}
 use native.Mathlib.Nat.{mul-div-le, mul-le-mul}

@@ -1,6 +1,5 @@
 -- Each line computes its part of the definition. M-as-L is from the load to less than L above it, so it fits and the room is no less than 0.
 use native.Mathlib.Omega.{arith}
-use borrow.Author.Rules.{rules}
 use Rattle.numbers.specs.Round.{round_up}
 use Rattle.numbers.proofs.Quotient.{round_up_least}
 use Rattle.admission.specs.Parts.{acceptance_of}
@@ -16,4 +15,4 @@ overflow_sub-room c = omega (arith, round_up_least c.args.load c.args.multiple c
 
 pub returns : goal.returns
 unfolding acceptance_of round_up
-returns c = simp c.Spare-of.ensures
+returns c = simp c.spare_of.ensures

@@ -3,8 +3,7 @@ use mathlib.Core.Path.{◌≡◌, sym, ap, ◌∙◌}
 use mathlib.Core.Logic.{⊎_elim, inl, inr}
 use Prim.Native.Nat.{◌≤◌}
 use native.Mathlib.Omega.{arith}
-use borrow.Author.Tests.{lt-ltb, ltb-true, ltb-false}
-use borrow.Author.Rules.{rules}
+use borrow.Author.Tests.{lt-ltb, ltb-false}
 use lib.ListN.{length}
 use Rattle.rule.specs.declared.Admission.TheVariants.{Refused as not_admitted}
 use Rattle.rule.specs.declared.Refusal.TheVariants.{Record}
@@ -17,25 +16,28 @@ use Rattle.admission.proofs.admit.Goals as goal
 
 pub returns-then-periods-n : goal.returns-then-periods-n
 unfolding admission_checks set_checks
-returns-then-periods-n c =     let s = c.args in
+returns-then-periods-n c =
+    let s = c.args in
     let es = s.requirements.now in
     let ps = s.periods.now in
     sym ((admission_refusal es ps s.m _).1 (this (other_lengths (length es) (length ps) c.if-periods-n.true)))
 
 pub returns-then-n-eq0 : goal.returns-then-n-eq0
 unfolding admission_checks set_checks
-returns-then-n-eq0 c =     let s = c.args in
+returns-then-n-eq0 c =
+    let s = c.args in
     let es = s.requirements.now in
     let ps = s.periods.now in
-    let beyond = outside 1 tasks_most (length es) (⊎_elim (λ w. inl (omega arith)) (λ w. inr (omega (arith, ltb-true))) c.then-n-eq0.branch) in
+    let beyond = outside 1 tasks_most (length es) (⊎_elim (λ w. inl (omega arith)) (λ w. inr (omega arith)) c.then-n-eq0.either) in
     sym ((admission_refusal es ps s.m _).1 (next (same_lengths (length es) (length ps) (omega arith)) (this beyond)))
 
 pub returns-then-m-eq0 : goal.returns-then-m-eq0
 unfolding admission_checks set_checks
-returns-then-m-eq0 c =     let s = c.args in
+returns-then-m-eq0 c =
+    let s = c.args in
     let es = s.requirements.now in
     let ps = s.periods.now in
-    let beyond = outside 1 units_most s.m (⊎_elim (λ w. inl (omega arith)) (λ w. inr (omega (arith, ltb-true))) c.then-m-eq0.branch) in
+    let beyond = outside 1 units_most s.m (⊎_elim (λ w. inl (omega arith)) (λ w. inr (omega arith)) c.then-m-eq0.either) in
     sym
     ((admission_refusal es ps s.m _).1
     (next (same_lengths (length es) (length ps) (omega arith))
@@ -46,7 +48,8 @@ overflow_cast-result c = omega (arith, ltb-false)
 
 pub returns-then-place-n : goal.returns-then-place-n
 unfolding admission_checks set_checks
-returns-then-place-n c =     let s = c.args in
+returns-then-place-n c =
+    let s = c.args in
     let es = s.requirements.now in
     let ps = s.periods.now in
     let e = c.invalid_place-place.ensures in
@@ -59,7 +62,8 @@ returns-then-place-n c =     let s = c.args in
     (next (inside 1 units_most s.m (omega arith) (omega (arith, ltb-false))) (this (lt-ltb (invalid_place es ps) (length es) low))))))
 
 pub admit_valid-requires : goal.admit_valid-requires
-admit_valid-requires c =     let s = c.args in
+admit_valid-requires c =
+    let s = c.args in
     let es = s.requirements.now in
     let ps = s.periods.now in
     let e = c.invalid_place-place.ensures in
@@ -70,7 +74,8 @@ admit_valid-requires c =     let s = c.args in
     }
 
 pub returns : goal.returns
-returns c =     let s = c.args in
+returns c =
+    let s = c.args in
     let es = s.requirements.now in
     let ps = s.periods.now in
     let e = c.invalid_place-place.ensures in

@@ -2,19 +2,14 @@
 -- of the list.
 use mathlib.Core.Path.{◌≡◌}
 use Prim.Native.Nat.{◌*◌, ◌/◌, ◌-◌, ◌≤◌}
-use native.Mathlib.Nat.{mul-le-mul}
-use native.Mathlib.Omega.{arith}
-use native.Mathlib.Numerals.{add-one}
-use borrow.Author.Rules.{rules}
-use lib.ListN.{length}
 use Rattle.rule.specs.Limits.{multiple_most}
 use Rattle.rule.specs.Places.{at, sum}
-use Rattle.rule.specs.Sets.{load as load_of, multiple as multiple_of}
-use Rattle.rule.proofs.Sets.{period_pos, share_lt}
+use Rattle.rule.specs.Sets.{multiple as multiple_of}
 use Rattle.admission.proofs.load_of.Given as goal
 
 abbrev pub invariant-loop-i : goal.invariant-loop-i
-invariant-loop-i l =     (l.i ≤ l.n) × (l.load ≤ multiple_most * l.i) × (l.load ≡ sum l.i (λ j. at l.requirements j * multiple_of l.periods / at l.periods j))
+invariant-loop-i l =
+    (l.i ≤ l.n) × (l.load ≤ multiple_most * l.i) × (l.load ≡ sum l.i (λ j. at l.requirements j * multiple_of l.periods / at l.periods j))
 
 abbrev pub decreases-loop-i : goal.decreases-loop-i
 decreases-loop-i l = l.n - l.i

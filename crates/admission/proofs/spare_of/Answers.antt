@@ -1,7 +1,6 @@
 -- The code makes the test of the definition: there is a spare where there is room.
 use native.Mathlib.Omega.{arith}
 use borrow.Author.Tests.{lt-ltb, le-ltb}
-use borrow.Author.Rules.{rules}
 use Rattle.admission.specs.Parts.{spare_of}
 use Rattle.admission.proofs.spare_of.Goals as goal
 

@@ -1,6 +1,5 @@
 -- `digit_of` meets its contract: its test is that of the digit. Assumes nothing.
 use borrow.Author.Tests.{lt-ltb, le-ltb}
-use borrow.Author.Rules.{rules}
 use Rattle.digits.proofs.digit_of.Goals as goal
 
 pub returns-then-v-lt10 : goal.returns-then-v-lt10

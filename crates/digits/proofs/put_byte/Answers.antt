@@ -4,7 +4,6 @@ use mathlib.Core.List.{[], ◌∷◌}
 use Prim.Native.Nat.{◌/◌}
 use native.Mathlib.Numerals.{add-one}
 use native.Mathlib.Omega.{arith}
-use borrow.Author.Rules.{rules}
 use lib.ListN.{length-set}
 use lib.Seq.{set_out}
 use Rattle.digits.specs.Digits.{digit_of, digits_of}
@@ -16,7 +15,8 @@ returns-then-at-n c = sym (sets_out _ _ (digits_of (c.args.byte ∷ [])) c.if-at
 
 pub returns-then-at-n-2 : goal.returns-then-at-n-2
 unfolding digits_of
-returns-then-at-n-2 c =     let a = c.args in
+returns-then-at-n-2 c =
+    let a = c.args in
     let end = length-set a.out.now a.at (digit_of (a.byte / 16)) in
     rw c.digit_of.ensures (sym (set_out _ _ _ (omega arith)))
 

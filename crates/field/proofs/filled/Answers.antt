@@ -1,12 +1,11 @@
-use mathlib.Core.Path.{◌≡◌, refl, sym, ap, ◌∙◌}
-use Prim.Native.Nat.{ℕ, ◌-◌, ◌≤◌, ◌<◌}
+use mathlib.Core.Path.{sym, ap, ◌∙◌}
 use native.Mathlib.Omega.{arith}
 use native.Mathlib.Numerals.{add-one}
 use borrow.Author.Rules.{rules}
 use borrow.Author.Tests.{ltb-true, ltb-false}
 use lib.ListN.{length, set}
 use Rattle.rule.specs.Layout.{placed}
-use Rattle.rule.specs.Places.{at, each}
+use Rattle.rule.specs.Places.{at}
 use Rattle.rule.proofs.Placed.{placed_task}
 use Rattle.rule.proofs.Written.{written, written_none, written_set}
 use Rattle.field.proofs.Laws.{blank, all_filled}
@@ -17,7 +16,8 @@ unfolding blank
 loop-i-init c = (search rules, search rules, search rules, written_none _ _)
 
 pub loop-i-preserved : goal.loop-i-preserved
-loop-i-preserved c =     let l = c.loop-i in
+loop-i-preserved c =
+    let l = c.loop-i in
     let a = c.args in
     let f = placed (length a.list.now) (at a.list.now) a.rest in
     let here = placed_task (length a.list.now) (at a.list.now) a.rest l.i (omega (arith, ltb-true)) in
@@ -29,11 +29,13 @@ loop-i-preserved c =     let l = c.loop-i in
     )
 
 pub returns-else-i-list : goal.returns-else-i-list
-returns-else-i-list c =     let l = c.loop-i in
+returns-else-i-list c =
+    let l = c.loop-i in
     let a = c.args in
     l.invariant.3 ∙ all_filled l.i a.list.now a.rest (λ j h m. omega (arith, ltb-false))
 
 pub returns-after-loop-i : goal.returns-after-loop-i
-returns-after-loop-i c =     let l = c.loop-i in
+returns-after-loop-i c =
+    let l = c.loop-i in
     let a = c.args in
     l.invariant.3 ∙ all_filled l.i a.list.now a.rest (λ j h. omega arith)

@@ -3,7 +3,6 @@
 use mathlib.Core.Path.{sym, ap}
 use mathlib.Core.Bool.{not}
 use native.Mathlib.Omega.{arith}
-use borrow.Author.Rules.{rules}
 use borrow.Author.Tests.{lt-ltb}
 use Rattle.rule.specs.Limits.{time_most}
 use Rattle.rule.specs.Refusals.{comparison_checks}
@@ -13,23 +12,27 @@ use Rattle.order.proofs.compare.Goals as goal
 
 pub returns-then-not-within_limits : goal.returns-then-not-within_limits
 unfolding comparison_checks
-returns-then-not-within_limits c =     let invalid = denied c.within_limits.ensures c.if-not-within_limits.true in
+returns-then-not-within_limits c =
+    let invalid = denied c.within_limits.ensures (ap not c.if-not-within_limits.true) in
     sym ((comparison_refusal _ _ _ _ _ _).1 (this (ap not invalid)))
 
 pub returns-then-not-within_limits-2 : goal.returns-then-not-within_limits-2
 unfolding comparison_checks
-returns-then-not-within_limits-2 c =     let valid = granted c.within_limits.ensures c.if-not-within_limits.false in
-    let invalid = denied c.within_limits-2.ensures c.if-not-within_limits-2.true in
+returns-then-not-within_limits-2 c =
+    let valid = granted c.within_limits.ensures (ap not c.if-not-within_limits.false) in
+    let invalid = denied c.within_limits-2.ensures (ap not c.if-not-within_limits-2.true) in
     sym ((comparison_refusal _ _ _ _ _ _).1 (next (ap not valid) (this (ap not invalid))))
 
 pub returns-then-t-gt-TIME_MOST : goal.returns-then-t-gt-TIME_MOST
 unfolding comparison_checks
-returns-then-t-gt-TIME_MOST c =     let valid = granted c.within_limits.ensures c.if-not-within_limits.false in
-    let valid2 = granted c.within_limits-2.ensures c.if-not-within_limits-2.false in
+returns-then-t-gt-TIME_MOST c =
+    let valid = granted c.within_limits.ensures (ap not c.if-not-within_limits.false) in
+    let valid2 = granted c.within_limits-2.ensures (ap not c.if-not-within_limits-2.false) in
     let late = lt-ltb time_most c.args.t (omega arith) in
     sym ((comparison_refusal _ _ _ _ _ _).1 (next (ap not valid) (next (ap not valid2) (this late))))
 
 pub returns : goal.returns
-returns c =     let valid = granted c.within_limits.ensures c.if-not-within_limits.false in
-    let valid2 = granted c.within_limits-2.ensures c.if-not-within_limits-2.false in
+returns c =
+    let valid = granted c.within_limits.ensures (ap not c.if-not-within_limits.false) in
+    let valid2 = granted c.within_limits-2.ensures (ap not c.if-not-within_limits-2.false) in
     comparison_answers _ _ _ _ _ _ valid valid2 (omega arith) c.plain.ensures

@@ -1,6 +1,5 @@
 -- `order::difference` meets its contract: the first difference is a number, and the second is no further from zero than
 -- the larger of its two sides. Assumes nothing.
-use borrow.Author.Rules.{rules}
 use Rattle.order.proofs.Signs.{first_fits, whole_fits, whole_difference}
 use Rattle.order.proofs.difference.Goals as goal
 

@@ -1,9 +1,7 @@
 use mathlib.Core.Path.{ap, ◌∙◌}
-use Prim.Native.Nat.{◌+◌, ◌-◌, ◌≤◌}
+use Prim.Native.Nat.{◌+◌}
 use native.Mathlib.Omega.{arith}
-use borrow.Author.Rules.{rules}
 use Rattle.rule.specs.Task.{symbol, compare}
-use Rattle.rule.proofs.Strings.{Compared, EndsBy}
 use Rattle.order.specs.Engine.{rank_of}
 use Rattle.order.proofs.Turns.{starts, ends, Turn, below_second, above_first, zero_tie, goes_on, ends_later, before_end}
 use Rattle.order.proofs.follow.Goals.{After-rank-b}
@@ -11,7 +9,8 @@ use Rattle.order.proofs.follow.Goals as goal
 
 -- Once both symbols are read.
 turn : (c : After-rank-b) → let x = c.args in Turn (symbol x.e x.p) (symbol x.e2 x.p2) (x.t + 1 + x.p) c.loop-a.i (compare x.t x.e x.p x.e2 x.p2) c.rank-a.result c.rank-b.result
-turn c =     let inv = c.loop-a.invariant in
+turn c =
+    let inv = c.loop-a.invariant in
     record {
       answers = inv.1;
       ends = inv.2;
@@ -29,7 +28,8 @@ pub loop-a-smaller : goal.loop-a-smaller
 loop-a-smaller c = omega arith
 
 pub loop-a-preserved : goal.loop-a-preserved
-loop-a-preserved c =     let w = turn c.before.before.before in
+loop-a-preserved c =
+    let w = turn c.before.before.before in
     let later = ends_later w c.if-a-eq1.false in
     (omega (arith, before_end _ _ later), goes_on w c.if-a-b.false c.if-b-a.false c.if-a-eq1.false, later)
 
@@ -40,4 +40,5 @@ pub returns-then-b-a : goal.returns-then-b-a
 returns-then-b-a c = above_first (turn c.before.before) c.if-b-a.true
 
 pub returns-then-a-eq1 : goal.returns-then-a-eq1
-returns-then-a-eq1 c =     zero_tie (turn c.before.before.before) c.if-a-b.false c.if-b-a.false c.if-a-eq1.true
+returns-then-a-eq1 c =
+    zero_tie (turn c.before.before.before) c.if-a-b.false c.if-b-a.false c.if-a-eq1.true

@@ -1,19 +1,14 @@
 -- `order::follow` meets its contract. The loop's invariant: from i on the comparison still answers what it answers from
 -- t + 1 on, and one of the symbols from i to t + p is 0. A turn that does not break has two equal symbols that are not 0.
 -- Assumes nothing.
-use mathlib.Core.Path.{ap, ◌∙◌}
 use Prim.Native.Nat.{◌+◌, ◌-◌, ◌≤◌}
-use native.Mathlib.Omega.{arith}
-use borrow.Author.Rules.{rules}
 use Rattle.rule.specs.Task.{symbol, compare}
 use Rattle.rule.proofs.Strings.{Compared, EndsBy}
-use Rattle.order.specs.Engine.{rank_of}
-use Rattle.order.proofs.Turns.{starts, ends, Turn, below_second, above_first, zero_tie, goes_on, ends_later, before_end}
-use Rattle.order.proofs.follow.Goals.{After-rank-b}
 use Rattle.order.proofs.follow.Given as goal
 
 abbrev pub invariant-loop-a : goal.invariant-loop-a
-invariant-loop-a l =     (l.i ≤ l.t + l.p) × Compared (symbol l.e l.p) (symbol l.e2 l.p2) l.i (compare l.t l.e l.p l.e2 l.p2) × EndsBy (symbol l.e l.p) (l.t + 1 + l.p - l.i) l.i
+invariant-loop-a l =
+    (l.i ≤ l.t + l.p) × Compared (symbol l.e l.p) (symbol l.e2 l.p2) l.i (compare l.t l.e l.p l.e2 l.p2) × EndsBy (symbol l.e l.p) (l.t + 1 + l.p - l.i) l.i
 
 abbrev pub decreases-loop-a : goal.decreases-loop-a
 decreases-loop-a l = l.t + 1 + l.p - l.i

@@ -1,7 +1,8 @@
 -- `order::plain` meets its contract: the three tests are those of `engine`, and where all three hold both tasks are
 -- within the bounds that `follow` asks. Assumes nothing.
+use mathlib.Core.Path.{ap}
+use mathlib.Core.Bool.{not}
 use native.Mathlib.Omega.{arith}
-use borrow.Author.Rules.{rules}
 use borrow.Author.Tests.{le-leb, lt-leb}
 use Rattle.rule.specs.Limits.{time_most}
 use Rattle.order.specs.Engine.{engine}
@@ -10,23 +11,26 @@ use Rattle.order.proofs.plain.Goals as goal
 
 pub returns-then-not-bounded : goal.returns-then-not-bounded
 unfolding engine
-returns-then-not-bounded c = rw (denied c.bounded.ensures c.if-not-bounded.true)
+returns-then-not-bounded c = rw (denied c.bounded.ensures (ap not c.if-not-bounded.true))
 
 pub returns-then-not-bounded-2 : goal.returns-then-not-bounded-2
 unfolding engine
-returns-then-not-bounded-2 c =     let takes1 = granted c.bounded.ensures c.if-not-bounded.false in
-    rw (takes1, denied c.bounded-2.ensures c.if-not-bounded-2.true)
+returns-then-not-bounded-2 c =
+    let takes1 = granted c.bounded.ensures (ap not c.if-not-bounded.false) in
+    rw (takes1, denied c.bounded-2.ensures (ap not c.if-not-bounded-2.true))
 
 pub returns-then-t-gt-TIME_MOST : goal.returns-then-t-gt-TIME_MOST
 unfolding engine
-returns-then-t-gt-TIME_MOST c =     let takes1 = granted c.bounded.ensures c.if-not-bounded.false in
-    let takes2 = granted c.bounded-2.ensures c.if-not-bounded-2.false in
+returns-then-t-gt-TIME_MOST c =
+    let takes1 = granted c.bounded.ensures (ap not c.if-not-bounded.false) in
+    let takes2 = granted c.bounded-2.ensures (ap not c.if-not-bounded-2.false) in
     let t = c.args.t in
     rw (takes1, takes2, lt-leb t time_most (omega arith))
 
 pub follow-requires : goal.follow-requires
-follow-requires c =     let takes1 = granted c.bounded.ensures c.if-not-bounded.false in
-    let takes2 = granted c.bounded-2.ensures c.if-not-bounded-2.false in
+follow-requires c =
+    let takes1 = granted c.bounded.ensures (ap not c.if-not-bounded.false) in
+    let takes2 = granted c.bounded-2.ensures (ap not c.if-not-bounded-2.false) in
     record {
       bounds = takes_bounds _ _ takes1;
       bounds_2 = takes_bounds _ _ takes2;
@@ -35,7 +39,8 @@ follow-requires c =     let takes1 = granted c.bounded.ensures c.if-not-bounded.
 
 pub returns : goal.returns
 unfolding engine
-returns c =     let takes1 = granted c.bounded.ensures c.if-not-bounded.false in
-    let takes2 = granted c.bounded-2.ensures c.if-not-bounded-2.false in
+returns c =
+    let takes1 = granted c.bounded.ensures (ap not c.if-not-bounded.false) in
+    let takes2 = granted c.bounded-2.ensures (ap not c.if-not-bounded-2.false) in
     let t = c.args.t in
     rw (takes1, takes2, le-leb t time_most (omega arith)) c.follow.ensures

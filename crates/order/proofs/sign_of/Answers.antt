@@ -8,14 +8,17 @@ use Rattle.order.proofs.Signs.{sign_minus, sign_zero, sign_plus}
 use Rattle.order.proofs.sign_of.Goals as goal
 
 pub returns-then-difference-lt0 : goal.returns-then-difference-lt0
-returns-then-difference-lt0 c =     let z = c.args.difference in
+returns-then-difference-lt0 c =
+    let z = c.args.difference in
     sign_minus z (rw (to_z-of_z w64 z c.ranges.difference) at c.if-difference-lt0.true)
 
 pub returns-then-difference-eq0 : goal.returns-then-difference-eq0
-returns-then-difference-eq0 c =     let z = c.args.difference in
+returns-then-difference-eq0 c =
+    let z = c.args.difference in
     sign_zero z (sym (to_z-of_z w64 z c.ranges.difference) ∙ ap (λ n. to_z w64 n) c.if-difference-eq0.true)
 
 pub returns-else-difference-eq0 : goal.returns-else-difference-eq0
-returns-else-difference-eq0 c =     let z = c.args.difference in
+returns-else-difference-eq0 c =
+    let z = c.args.difference in
     let not-below = rw (to_z-of_z w64 z c.ranges.difference) at c.if-difference-lt0.false in
     sign_plus z not-below (λ q. c.if-difference-eq0.false (ap (λ v. of_z w64 v) q))

@@ -5,7 +5,6 @@ use Prim.Native.Nat.{◌+◌, ◌*◌, ◌<◌, ◌^◌}
 use native.Mathlib.Omega.{arith}
 use mir.Syntax.{w64}
 use mir.ValLaws.{to_z-of_z}
-use borrow.Author.Rules.{rules}
 use Rattle.rule.specs.Task.{sign}
 use Rattle.order.proofs.Signs.{next_fits, floor_low, floor_fits, symbol_is}
 use Rattle.order.proofs.symbol_at.Goals.{Start}
@@ -27,6 +26,7 @@ pub difference-requires : goal.difference-requires
 difference-requires c = (floor_low _ _ _ (omega arith), omega (arith, small c), omega arith)
 
 pub returns : goal.returns
-returns c =     let d = c.difference in
-    let read = to_z-of_z w64 d.result (record { sfits = d.type-inv }) in
+returns c =
+    let d = c.difference in
+    let read = to_z-of_z w64 d.result (record { sfits = d.type_inv }) in
     c.sign_of.ensures ∙ ap sign (read ∙ d.ensures) ∙ symbol_is _ _ _
