@@ -81,7 +81,7 @@ fn load_of(requirements: &[u32], periods: &[u32], multiple: u32) -> u32
     let mut load: u32 = 0;
     let mut i = 0;
     while i < n {
-        // As a u64, since typeof.e.L may be no u32.
+        // As a u64, since e·L may be no u32.
         let product = (requirements[i] as u64) * (multiple as u64);
         load += (product / (periods[i] as u64)) as u32;
         i += 1;

@@ -1,5 +1,5 @@
 -- An accepted set is a set of tasks that fill M units, the spare among them, with L grains to the slot: each weight is e·L/p, the
--- spare's the room, and they add up to M-as-L. Assumes nothing.
+-- spare's the room, and they add up to M·L. Assumes nothing.
 use mathlib.Core.Path.{◌≡◌, refl, sym, ◌∙◌}
 use mathlib.Core.List.{List}
 use Prim.Native.Nat.{ℕ, ◌*◌, ◌/◌, ◌<◌}

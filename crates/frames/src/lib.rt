@@ -17,7 +17,7 @@ use rule::{Admission, Outcome, Ran};
 
 // What is kept between frames beside the three lists: how many tasks the set in force has, on how many units, and the time. n is 0
 // where there is no set.
-#[derive(Drop)]
+#[derive(Clone, Copy)]
 pub struct Kept {
     pub n: usize,
     pub m: u32,
@@ -25,7 +25,7 @@ pub struct Kept {
 }
 
 // What is kept after a line, and how many bytes of the lent buffer its answer takes.
-#[derive(Drop)]
+#[derive(Clone, Copy)]
 pub struct Answered {
     pub kept: Kept,
     pub size: usize,

@@ -6,14 +6,14 @@ ghost use Rattle.numbers.specs.Divide.{gcd as gcd_of, IsGcd, lowest_terms};
 ghost use Rattle.numbers.specs.Multiple.{lcm, lcm_all, within};
 
 // A fraction, above over below.
-#[derive(Drop)]
+#[derive(Clone, Copy)]
 pub struct Fraction {
     pub above: u32,
     pub below: u32,
 }
 
 // A least common multiple, or that it is above the limit.
-#[derive(Drop)]
+#[derive(Clone, Copy)]
 pub enum Multiple {
     At(u32),
     Above,

@@ -1,18 +1,15 @@
 -- What a line asks, test by test as the code makes them. Assumes nothing.
-use mathlib.Core.Path.{◌≡◌, refl, sym, ap, ◌∙◌}
-use mathlib.Core.Bool.{Bool, true, false, cond, ◌&&◌}
+use mathlib.Core.Path.{◌≡◌, sym}
+use mathlib.Core.Bool.{true, false}
 use mathlib.Core.List.{List}
 use Prim.Native.Nat.{ℕ, ◌+◌, ◌*◌, ◌/◌, ◌%◌, ◌<◌, ◌≤◌}
-use native.Mathlib.Omega.{arith}
 use borrow.Author.Tests.{eq-eqb, ne_eqb, le-leb, lt-leb}
-use lib.Dec.{leb, eqb}
 use lib.ListN.{length}
-use Rattle.rule.specs.Places.{at, each}
+use Rattle.rule.specs.Places.{at}
 use Rattle.rule.proofs.Places.{length_each}
 use Rattle.digits.specs.Digits.{all_digits, bytes_of}
 use Rattle.digits.specs.Fields.{field_at}
 use Rattle.digits.proofs.Bytes.{length_bytes}
-use Rattle.reading.specs.declared.Asked.{Asked}
 use Rattle.reading.specs.declared.Asked.TheVariants.{Admit, Run, List as Listing, Malformed}
 use Rattle.reading.specs.Kinds.{well_formed, admit_frame, run_frame, list_frame, frame_of, read}
 use Rattle.reading.specs.Asking.{asked_by}

@@ -7,7 +7,7 @@ ghost use Rattle.reading.specs.Kinds.{well_formed, admit_frame, run_frame, list_
 ghost use Rattle.reading.specs.Asking.{asked_by, column as column_of};
 
 // What a line asks. The records of a set to admit stay in the line.
-#[derive(Drop)]
+#[derive(Clone, Copy)]
 pub enum Asked {
     Admit { m: u32, n: usize },
     Run { slots: u32 },

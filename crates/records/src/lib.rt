@@ -13,7 +13,7 @@ use rule::{Admission, Outcome, Refusal};
 
 // A record: the requirement, the period and the count of a task. A host program lends records too, so that its layout is C's.
 #[repr(C)]
-#[derive(Drop)]
+#[derive(Clone, Copy)]
 pub struct Task {
     pub e: u32,
     pub p: u32,

@@ -24,7 +24,7 @@ units_in_use es ps = round_up (load es ps) (multiple ps)
 unfoldable pub room : List ℕ → List ℕ → ℕ
 room es ps = units_in_use es ps * multiple ps - load es ps
 
--- "If M-as-L exceeds the load there is a spare, .. with weight (M-as-L - load)/L; its fraction is reduced to lowest terms by
+-- "If M·L exceeds the load there is a spare, .. with weight (M·L - load)/L; its fraction is reduced to lowest terms by
 -- Euclid's rule."
 unfoldable pub spare : List ℕ → List ℕ → Spare
 spare es ps =

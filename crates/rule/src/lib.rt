@@ -20,7 +20,7 @@ pub const TIME_MOST: u32 = 16777215;
 pub const SLOTS_MOST: u32 = 1024;
 
 // A symbol of a string: the sign of a difference, written -, 0 or +.
-#[derive(Drop)]
+#[derive(Clone, Copy)]
 pub enum Symbol {
     Minus,
     Zero,
@@ -28,7 +28,7 @@ pub enum Symbol {
 }
 
 // How a task stands: the sign of its lag.
-#[derive(Drop)]
+#[derive(Clone, Copy)]
 pub enum Standing {
     Ahead,
     Punctual,
@@ -36,7 +36,7 @@ pub enum Standing {
 }
 
 // Which of two tasks goes first by their strings.
-#[derive(Drop)]
+#[derive(Clone, Copy)]
 pub enum Order {
     First,
     Second,
@@ -44,7 +44,7 @@ pub enum Order {
 }
 
 // Why a call was refused, with what the refusal carries.
-#[derive(Drop)]
+#[derive(Clone, Copy)]
 pub enum Refusal {
     // 1: lent lists differ in length.
     Lengths,
@@ -69,14 +69,14 @@ pub enum Refusal {
 }
 
 // The spare: nobody, or a task of e slots in p.
-#[derive(Drop)]
+#[derive(Clone, Copy)]
 pub enum Spare {
     Nobody,
     Task { e: u32, p: u32 },
 }
 
 // An accepted set: M, L and the spare.
-#[derive(Drop)]
+#[derive(Clone, Copy)]
 pub struct Accepted {
     pub units: u32,
     pub multiple: u32,
@@ -84,28 +84,28 @@ pub struct Accepted {
 }
 
 // The answer of admission.
-#[derive(Drop)]
+#[derive(Clone, Copy)]
 pub enum Admission {
     Accepted(Accepted),
     Refused(Refusal),
 }
 
 // The answer of the comparison.
-#[derive(Drop)]
+#[derive(Clone, Copy)]
 pub enum Comparison {
     Answer(Order),
     Refused(Refusal),
 }
 
 // The answer of a slot and of a listing, and how a run ended.
-#[derive(Drop)]
+#[derive(Clone, Copy)]
 pub enum Outcome {
     Done,
     Refused(Refusal),
 }
 
 // The answer of a run: how many slots were done, and how it ended.
-#[derive(Drop)]
+#[derive(Clone, Copy)]
 pub struct Ran {
     pub done: u32,
     pub end: Outcome,

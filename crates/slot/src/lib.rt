@@ -17,7 +17,7 @@ const URGENT: u8 = 4;
 
 // 1 where the place asked last runs, 0 where not; and of the contenders asked so far one that has room and one that has none. A place
 // past the list says that there is none such yet.
-#[derive(Drop)]
+#[derive(Clone, Copy)]
 struct Choice {
     chosen: u8,
     inside: usize,

@@ -1,10 +1,9 @@
 -- An accepted set laid out: its field is the set's own, entry by entry, and of the laid_out checks only those of the time and of the
 -- lags are left, which are the set's. Assumes nothing.
 use mathlib.Core.Path.{◌≡◌, refl, sym, ap, ◌∙◌, subst}
-use mathlib.Core.Logic.{◌⊎◌, inl, inr}
-use mathlib.Core.Bool.{Bool, true, false, cond, not, ◌&&◌, ◌||◌}
-use mathlib.Core.List.{List, [], ◌∷◌, ◌++◌}
-use Prim.Native.Nat.{ℕ, suc, ◌*◌, ◌≤◌, ◌<◌}
+use mathlib.Core.Bool.{Bool, true, false, cond, not, ◌||◌}
+use mathlib.Core.List.{List, [], ◌∷◌}
+use Prim.Native.Nat.{ℕ, suc, ◌*◌, ◌<◌}
 use native.Mathlib.Decide.{dec_lt}
 use native.Mathlib.Nat.{le_trans}
 use native.Mathlib.Omega.{arith}
@@ -15,19 +14,19 @@ use lib.ListN.{length}
 use Rattle.rule.specs.declared.Spare.{Spare}
 use Rattle.rule.specs.declared.Spare.TheVariants.{Nobody, Task}
 use Rattle.rule.specs.declared.Refusal.TheVariants.{Lengths, Units, Record, Lag}
-use Rattle.rule.specs.Limits.{bounded_by, multiple_most, units_most, within, tasks_most}
-use Rattle.rule.specs.Places.{at, sum, lowest, each}
-use Rattle.rule.specs.Task.{Entry, fair}
-use Rattle.rule.specs.Sets.{multiple, units_in_use, spare, Field, field}
-use Rattle.rule.specs.Refusals.{Check, check, passed, first, tasks, times, lags, unfair_at, unfair_place}
+use Rattle.rule.specs.Limits.{bounded_by, multiple_most, units_most, tasks_most}
+use Rattle.rule.specs.Places.{at, sum, lowest}
+use Rattle.rule.specs.Task.{fair}
+use Rattle.rule.specs.Sets.{units_in_use, spare, field}
+use Rattle.rule.specs.Refusals.{check, first, tasks, times, lags, unfair_at, unfair_place}
 use Rattle.rule.proofs.Limits.{numbers_bounded}
 use Rattle.rule.proofs.Places.{length_each, at_each, lowest_none, lowest_ext}
 use Rattle.rule.specs.Layout.{places_of}
 use Rattle.rule.proofs.Placed.{size, requirement_at, period_at, requirement_task, period_task, requirement_spare, period_spare, at_places, field_size, field_entry_free}
-use Rattle.rule.proofs.Refusals.{NoneHolds, none, and, none_first, first_append}
-use Rattle.rule.proofs.Sets.{AcceptedSet, SpareTask}
+use Rattle.rule.proofs.Refusals.{none, and, none_first, first_append}
+use Rattle.rule.proofs.Sets.{AcceptedSet}
 use Rattle.field.proofs.OfSet.{laid_requirements, laid_periods}
-use Rattle.standing.specs.Laid.{laid_count, laid_entry, laid_field, is_laid_out, wild_place, laid_unfair, laid_unfair_place, laid_checks}
+use Rattle.standing.specs.Laid.{laid_count, laid_entry, is_laid_out, wild_place, laid_unfair, laid_unfair_place, laid_checks}
 
 module _ (es ps : List ℕ) where
   pub length_laid : length (laid_requirements es ps) ≡ size es ps

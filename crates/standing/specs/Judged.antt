@@ -1,8 +1,7 @@
 -- The rung of a task at t: its standing and its class in one number, from the most ahead to the most behind.
-use Rattle.std.specs.Prelude.{Bool, true, false, cond, List, ℕ, ltb, length}
+use Rattle.std.specs.Prelude.{cond, List, ℕ, ltb, length}
 use Rattle.rule.specs.declared.Standing.{Standing}
 use Rattle.rule.specs.declared.Standing.TheVariants.{Ahead, Punctual, Behind}
-use Rattle.rule.specs.declared.Outcome.{Outcome}
 use Rattle.rule.specs.declared.Outcome.TheVariants.{Done, Refused}
 use Rattle.rule.specs.Places.{each}
 use Rattle.rule.specs.Task.{Entry, standing}

@@ -19,14 +19,14 @@ const LINE_MOST: usize = 519;
 const ANSWER_MOST: usize = 144391;
 
 // What is kept while more input is waited for, beside the lists and the line's bytes.
-#[derive(Drop)]
+#[derive(Clone, Copy)]
 pub struct Waiting {
     pub kept: Kept,
     pub held: usize,
 }
 
 // What is kept after a piece, how many of its bytes are taken, and how many bytes of the lent buffer the answers take.
-#[derive(Drop)]
+#[derive(Clone, Copy)]
 pub struct Fed {
     pub waiting: Waiting,
     pub at: usize,
@@ -34,7 +34,7 @@ pub struct Fed {
 }
 
 // The line at hand after a part of a piece, the place in the piece after that part, and whether a line feed ended it.
-#[derive(Drop)]
+#[derive(Clone, Copy)]
 struct Taken {
     held: usize,
     at: usize,

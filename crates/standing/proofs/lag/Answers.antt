@@ -1,0 +1,13 @@
+-- Both products are below 2^63, so the casts keep them and their difference fits.
+use mir.Syntax.{w64}
+use mir.ValLaws.{to_z_pos, to_z-of_z}
+use Rattle.rule.specs.Task.{lag as lag_of}
+use Rattle.standing.proofs.Integers.{difference_fits}
+use Rattle.standing.proofs.lag.Goals as goal
+
+pub overflow_sub-result : goal.overflow_sub-result
+overflow_sub-result c = simp (to_z_pos w64 _ c.requires.t_bound, to_z_pos w64 _ c.requires.k_bound) (difference_fits _ _ c.requires.t_bound c.requires.k_bound)
+
+pub returns : goal.returns
+unfolding lag_of
+returns c = simp (to_z_pos w64 _ c.requires.t_bound, to_z_pos w64 _ c.requires.k_bound) (to_z-of_z w64 _ (difference_fits _ _ c.requires.t_bound c.requires.k_bound))
