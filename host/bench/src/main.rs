@@ -91,7 +91,7 @@ fn programs(options: &Options) -> io::Result<Vec<Program>> {
     let mut programs = vec![
         program(
             table::OURS,
-            ours.unwrap_or(root().join("target/bin/prettavorn")),
+            ours.unwrap_or(root().join("crates/prettavorn/out/prettavorn")),
             &[],
         ),
         program("second", second, &[]),

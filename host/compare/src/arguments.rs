@@ -10,8 +10,8 @@ pub const USAGE: &str = "compare [--ours PATH] [--second PATH] [--limit SECONDS]
   --pipe     named pipes: the next frame only after the answer to the last
   --long     a set run to the calendar's end
 --cuts and --pipe take seeds too. --save FILE keeps the script that differs.
-Paths are from the repository's root unless given: target/bin/prettavorn and
-host/second/target/release/second.";
+Paths are from the repository's root unless given:
+crates/prettavorn/out/prettavorn and host/second/target/release/second.";
 
 #[derive(Debug, Clone, Copy, PartialEq, Eq)]
 pub enum Work {
@@ -36,7 +36,7 @@ pub struct Arguments {
 /// The arguments, or what is wrong with them.
 pub fn read(words: impl Iterator<Item = String>) -> Result<Arguments, String> {
     let mut arguments = Arguments {
-        ours: "target/bin/prettavorn".into(),
+        ours: "crates/prettavorn/out/prettavorn".into(),
         second: "host/second/target/release/second".into(),
         limit: Duration::from_secs(20),
         seeds: Vec::new(),

@@ -14,7 +14,7 @@ pub struct Malformed {
 }
 
 const AGAIN: &str = "type the line again: digits 0 to 9 and capitals A to F, no blanks; or write it in words and let ./plan make the frame";
-/// What to do about carriage returns; the board says it of answers too. The blanks of the command do not break.
+/// What to do about carriage returns. The blanks of the command do not break.
 pub const WINDOWS_ENDS: &str = "the file has Windows line ends; take them out, and use what comes of it: tr\u{A0}-d\u{A0}'\\r'\u{A0}<\u{A0}FILE\u{A0}>\u{A0}MENDED";
 const FEWER_TASKS: &str =
     "send a set of at most 64 tasks: leave some out, or make one task of several";

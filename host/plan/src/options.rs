@@ -85,8 +85,9 @@ FILE may be - for standard input. A plan says one thing a line:
 const AFTER: &str = "
 A set begins with its units, and all its tasks follow. It is sent as one frame
 when the next thing is asked, or at the end. A task's name may have blanks and
-any letters, and stands once in a set. Names are for you and for ./board: what
-is sent is a task's place. A # at the start of a word begins a comment.
+any letters, and stands once in a set. Names are for you, and ./board takes them
+by --names: what is sent is a task's place. A # at the start of a word begins a
+comment.
 
 Whether a set is admissible is for prettavorn to say: 70 tasks, 9/3 or 0 units
 are sent. Only what a frame cannot carry is a fault here: more than 255 units
