@@ -3,28 +3,29 @@ use crate::show;
 use rule::Outcome;
 
 // Admission of a set.
-pub fn admission(requirements: &[u32], periods: &[u32], m: u32) {
-    show::set(requirements, periods, m);
-    show::admitted(admission::admit(requirements, periods, m));
+pub fn admission(rt: &impl Print, requirements: &[u32], periods: &[u32], m: u32) {
+    show::set(rt, requirements, periods, m);
+    show::admitted(rt, admission::admit(requirements, periods, m));
 }
 
 // Admission of a set whose tasks are all alike.
-pub fn alike(requirements: &[u32], periods: &[u32], m: u32) {
-    show::alike(requirements, periods, m);
-    show::admitted(admission::admit(requirements, periods, m));
+pub fn alike(rt: &impl Print, requirements: &[u32], periods: &[u32], m: u32) {
+    show::alike(rt, requirements, periods, m);
+    show::admitted(rt, admission::admit(requirements, periods, m));
 }
 
 // Comparison of two tasks at a time.
-pub fn comparison(e: u32, p: u32, e2: u32, p2: u32, t: u32) {
-    show::fraction(e, p);
-    show::text(b" against ");
-    show::fraction(e2, p2);
-    show::phrase(b" at time ", t);
-    show::compared(order::compare(e, p, e2, p2, t));
+pub fn comparison(rt: &impl Print, e: u32, p: u32, e2: u32, p2: u32, t: u32) {
+    show::fraction(rt, e, p);
+    show::text(rt, b" against ");
+    show::fraction(rt, e2, p2);
+    show::phrase(rt, b" at time ", t);
+    show::compared(rt, order::compare(e, p, e2, p2, t));
 }
 
 // One slot.
 pub fn slot(
+    rt: &impl Print,
     requirements: &[u32],
     periods: &[u32],
     counts: &mut [u32],
@@ -32,16 +33,17 @@ pub fn slot(
     m: u32,
     t: u32,
 ) {
-    show::set(requirements, periods, m);
-    show::standing(t, counts);
+    show::set(rt, requirements, periods, m);
+    show::standing(rt, t, counts);
     match slot::slot(requirements, periods, counts, bytes, m, t) {
-        Outcome::Refused(refusal) => show::refused(refusal),
-        Outcome::Done => show::dealt(bytes, counts, m),
+        Outcome::Refused(refusal) => show::refused(rt, refusal),
+        Outcome::Done => show::dealt(rt, bytes, counts, m),
     }
 }
 
 // A run from time t on.
 pub fn run(
+    rt: &impl Print,
     slots: u32,
     requirements: &[u32],
     periods: &[u32],
@@ -50,11 +52,12 @@ pub fn run(
     m: u32,
     t: u32,
 ) {
-    show::number(slots);
-    show::text(b" slots of ");
-    show::set(requirements, periods, m);
-    show::standing(t, counts);
+    show::number(rt, slots);
+    show::text(rt, b" slots of ");
+    show::set(rt, requirements, periods, m);
+    show::standing(rt, t, counts);
     show::ran(
+        rt,
         run::run(slots, requirements, periods, counts, log, m, t),
         counts,
     );
@@ -62,6 +65,7 @@ pub fn run(
 
 // A listing of standings.
 pub fn listing(
+    rt: &impl Print,
     requirements: &[u32],
     periods: &[u32],
     counts: &[u32],
@@ -69,10 +73,10 @@ pub fn listing(
     m: u32,
     t: u32,
 ) {
-    show::set(requirements, periods, m);
-    show::standing(t, counts);
+    show::set(rt, requirements, periods, m);
+    show::standing(rt, t, counts);
     match listing::list(requirements, periods, counts, bytes, m, t) {
-        Outcome::Refused(refusal) => show::refused(refusal),
-        Outcome::Done => show::marks(bytes),
+        Outcome::Refused(refusal) => show::refused(rt, refusal),
+        Outcome::Done => show::marks(rt, bytes),
     }
 }

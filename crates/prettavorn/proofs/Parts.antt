@@ -1,12 +1,6 @@
 -- A call takes a byte at least of the part of a piece that is left, and no more than that part. Assumes nothing.
-use mathlib.Core.Path.{◌≡◌}
-use mathlib.Core.Bool.{Bool, true}
-use mathlib.Core.List.{List}
-use Prim.Native.Nat.{ℕ, ◌+◌, ◌-◌, ◌<◌, ◌≤◌}
-use native.Mathlib.Omega.{arith}
-use borrow.Author.Tests.{le-leb}
-use lib.ListN.{length, take, drop, length-drop}
-use lib.Seq.{length-take-le}
+use Rattle.std.proofs.Common.{◌≡◌, Bool, true, List, ℕ, ◌+◌, ◌-◌, ◌<◌, ◌≤◌, length, take, drop, arith, length-drop, le-leb}
+use Rattle.std.proofs.lemmas.List.{length-take-le}
 use Rattle.frames.specs.Session.{Session}
 use Rattle.frames.specs.Keeping.{log_most, answer_most, has_room}
 use Rattle.stream.specs.Pieces.{line_most, is_roomy, taken}

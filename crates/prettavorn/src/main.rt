@@ -6,11 +6,8 @@ ghost use Rattle.frames.specs.Keeping.{log_most, answer_most};
 ghost use Rattle.stream.specs.Pieces.{line_most, is_roomy};
 
 use frames::Kept;
+use std::io::{Read, Write};
 use stream::Waiting;
-
-const INPUT: i32 = 0;
-
-const OUTPUT: i32 = 1;
 
 // What is kept from read to read beside the lent lists, whether the program goes on, and whether the input is at its end.
 #[derive(Drop)]
@@ -29,7 +26,7 @@ struct Part {
 }
 
 // Lines of a piece from a place on, as many as have room for their answers, and the answers written.
-fn serve_part(
+fn serve_part<O: Write>(
     waiting: Waiting,
     requirements: &mut [u32],
     periods: &mut [u32],
@@ -39,8 +36,9 @@ fn serve_part(
     piece: &[u8],
     out: &mut [u8],
     at: usize,
+    output: &mut O,
 ) -> Part
-    requires line_value { is_roomy waiting requirements.old periods.old counts.old log.old line.old ≡ true }
+    requires roomy { is_roomy waiting requirements.old periods.old counts.old log.old line.old ≡ true }
     requires at_in_bounds { (at < length piece.now) × (answer_most ≤ length out.old) }
     ensures roomy { is_roomy result.waiting requirements.new periods.new counts.new log.new line.new ≡ true }
     ensures onward { (at < result.at) × (result.at ≤ length piece.now) }
@@ -56,7 +54,7 @@ fn serve_part(
         out,
     );
     let size = fed.size;
-    let written = io::write_all(OUTPUT, &out[..size]);
+    let written = output.write_all(&out[..size]).is_ok();
     let kept = fed.waiting;
     Part {
         waiting: kept,
@@ -66,7 +64,7 @@ fn serve_part(
 }
 
 // Every line of a piece is answered, and the answers written, before any more input is asked for. A write that fails ends the program.
-fn serve(
+fn serve<O: Write>(
     waiting: Waiting,
     requirements: &mut [u32],
     periods: &mut [u32],
@@ -75,8 +73,9 @@ fn serve(
     line: &mut [u8],
     piece: &[u8],
     out: &mut [u8],
+    output: &mut O,
 ) -> Turn
-    requires line_value { is_roomy waiting requirements.old periods.old counts.old log.old line.old ≡ true }
+    requires roomy { is_roomy waiting requirements.old periods.old counts.old log.old line.old ≡ true }
     requires answer_most_in_bounds { answer_most ≤ length out.old }
     ensures { is_roomy result.waiting requirements.new periods.new counts.new log.new line.new ≡ true }
 {
@@ -93,6 +92,7 @@ fn serve(
             piece,
             out,
             at,
+            output,
         );
         kept = part.waiting;
         at = part.at;
@@ -112,7 +112,7 @@ fn serve(
 }
 
 // One read, and what it brought answered. A read that brings nothing ends the program: the input is at its end, or the read failed.
-fn one_read(
+fn one_read<I: Read, O: Write>(
     waiting: Waiting,
     requirements: &mut [u32],
     periods: &mut [u32],
@@ -121,18 +121,21 @@ fn one_read(
     line: &mut [u8],
     piece: &mut [u8],
     out: &mut [u8],
+    input: &mut I,
+    output: &mut O,
 ) -> Turn
-    requires line_value { is_roomy waiting requirements.old periods.old counts.old log.old line.old ≡ true }
+    requires roomy { is_roomy waiting requirements.old periods.old counts.old log.old line.old ≡ true }
     requires answer_most_in_bounds { answer_most ≤ length out.old }
     ensures { is_roomy result.waiting requirements.new periods.new counts.new log.new line.new ≡ true }
 {
-    let got = libc::read(INPUT, piece);
-    let n = io::count(got, piece);
+    let got = input.read(piece);
+    let ended = got.is_ok();
+    let n = got.unwrap_or(0);
     if n == 0 {
         return Turn {
             waiting: waiting,
             more: false,
-            ended: got == 0,
+            ended: ended,
         };
     }
     serve(
@@ -144,11 +147,12 @@ fn one_read(
         line,
         &piece[..n],
         out,
+        output,
     )
 }
 
-// Reads until the input ends. A proved loop has to end, so it counts down from a number that no run uses up.
-fn rounds(
+// Reads until the input ends. A proved loop has to end, so it counts up to a number that no run reaches.
+fn rounds<I: Read, O: Write>(
     waiting: Waiting,
     requirements: &mut [u32],
     periods: &mut [u32],
@@ -157,20 +161,31 @@ fn rounds(
     line: &mut [u8],
     piece: &mut [u8],
     out: &mut [u8],
+    input: &mut I,
+    output: &mut O,
 ) -> Turn
-    requires line_value { is_roomy waiting requirements.old periods.old counts.old log.old line.old ≡ true }
+    requires roomy { is_roomy waiting requirements.old periods.old counts.old log.old line.old ≡ true }
     requires answer_most_in_bounds { answer_most ≤ length out.old }
     ensures { is_roomy result.waiting requirements.new periods.new counts.new log.new line.new ≡ true }
 {
     let mut kept = waiting;
-    let mut turns = u64::MAX;
-    while turns > 0 {
-        let turn = one_read(kept, requirements, periods, counts, log, line, piece, out);
+    for _ in 0..u64::MAX {
+        let turn = one_read(
+            kept,
+            requirements,
+            periods,
+            counts,
+            log,
+            line,
+            piece,
+            out,
+            input,
+            output,
+        );
         if !turn.more {
             return turn;
         }
         kept = turn.waiting;
-        turns -= 1;
     }
     Turn {
         waiting: kept,
@@ -180,7 +195,7 @@ fn rounds(
 }
 
 // The input's end: the last line is answered too, if it lacks its line feed.
-fn finish(
+fn finish<O: Write>(
     waiting: Waiting,
     requirements: &mut [u32],
     periods: &mut [u32],
@@ -188,17 +203,19 @@ fn finish(
     log: &mut [u8],
     line: &[u8],
     out: &mut [u8],
+    output: &mut O,
 )
-    requires line_value { is_roomy waiting requirements.old periods.old counts.old log.old line.now ≡ true }
+    requires roomy { is_roomy waiting requirements.old periods.old counts.old log.old line.now ≡ true }
     requires answer_most_in_bounds { answer_most ≤ length out.old }
 {
     let last = stream::finish(waiting, requirements, periods, counts, log, line, out);
     let size = last.size;
-    io::write_all(OUTPUT, &out[..size]);
+    // It is the last write: nothing is left to do if it fails.
+    let _ = output.write_all(&out[..size]);
 }
 
 // The whole input.
-fn pump(
+fn pump<I: Read, O: Write>(
     requirements: &mut [u32],
     periods: &mut [u32],
     counts: &mut [u32],
@@ -206,6 +223,8 @@ fn pump(
     line: &mut [u8],
     piece: &mut [u8],
     out: &mut [u8],
+    input: &mut I,
+    output: &mut O,
 )
     requires in_bounds { (64 ≤ length requirements.old) × (64 ≤ length periods.old) × (64 ≤ length counts.old) × (log_most ≤ length log.old) }
     requires line_most_in_bounds { (line_most ≤ length line.old) × (answer_most ≤ length out.old) }
@@ -214,10 +233,21 @@ fn pump(
         kept: Kept { n: 0, m: 0, t: 0 },
         held: 0,
     };
-    let turn = rounds(start, requirements, periods, counts, log, line, piece, out);
+    let turn = rounds(
+        start,
+        requirements,
+        periods,
+        counts,
+        log,
+        line,
+        piece,
+        out,
+        input,
+        output,
+    );
     if turn.ended {
         let kept = turn.waiting;
-        finish(kept, requirements, periods, counts, log, line, out);
+        finish(kept, requirements, periods, counts, log, line, out, output);
     }
 }
 
@@ -228,14 +258,15 @@ fn answers() -> [u8; 262144]
     [0; 262144]
 }
 
-fn main() {
+fn main(rt: HostRuntime) {
     let mut requirements = [0u32; 64];
     let mut periods = [0u32; 64];
     let mut counts = [0u32; 64];
-    let mut log = io::large_buffer();
+    let mut log = [0u8; 65536];
     let mut line = [0u8; 519];
-    let mut piece = io::large_buffer();
+    let mut piece = [0u8; 65536];
     let mut out = answers();
+    // Neither stream keeps a buffer: what is written has left the program, and no read takes more than it is asked for.
     pump(
         &mut requirements,
         &mut periods,
@@ -244,5 +275,7 @@ fn main() {
         &mut line,
         &mut piece,
         &mut out,
+        &mut rt.stdin(),
+        &mut rt.stdout(),
     );
 }

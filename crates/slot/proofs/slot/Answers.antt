@@ -1,0 +1,52 @@
+-- `slot` meets its contract: each way out is the slot's own first refusal, or the slot of an accepted set. Assumes nothing.
+use mathlib.Core.Path.{sym, ◌∙◌}
+use mathlib.Core.List.{[], ◌∷◌}
+use lib.ListN.{length}
+use Rattle.rule.proofs.Refusals.{differ_here, differ_later}
+use Rattle.slot.proofs.Parts.{parts}
+use Rattle.slot.proofs.Accepted.{slot_lengths, slot_refused}
+use borrow.Author.Rules.{rules}
+use Rattle.slot.proofs.slot.Goals as goal
+
+pub returns-then-counts-n : goal.returns-then-counts-n
+returns-then-counts-n c =
+    let a = c.args in
+    let r = parts
+    (slot_lengths a.requirements.now a.periods.now a.counts.now a.bytes.now a.m a.t
+    (differ_later (length a.requirements.now) (length a.periods.now) (length a.counts.now ∷ length a.bytes.now ∷ []) (differ_here _ _ _ c.if-counts-n.true))) in
+    record {
+      answer = r.0;
+      counts = r.1.0;
+      bytes = r.1.1;
+    }
+
+pub returns-then-bytes-n : goal.returns-then-bytes-n
+returns-then-bytes-n c =
+    let a = c.args in
+    let r = parts
+    (slot_lengths a.requirements.now a.periods.now a.counts.now a.bytes.now a.m a.t
+    (differ_later (length a.requirements.now) (length a.periods.now) (length a.counts.now ∷ length a.bytes.now ∷ [])
+    (differ_later _ _ _ (differ_here _ _ _ c.if-bytes-n.true)))) in
+    record {
+      answer = r.0;
+      counts = r.1.0;
+      bytes = r.1.1;
+    }
+
+pub deal_accepted-requires : goal.deal_accepted-requires
+deal_accepted-requires c = record {
+      m_value = sym c.admit.ensures ∙ c.in-Accepted.is;
+      counts_len = (c.if-counts-n.false, c.if-bytes-n.false);
+    }
+
+pub returns-in-Refused : goal.returns-in-Refused
+returns-in-Refused c =
+    let a = c.args in
+    let r = parts
+    (slot_refused a.requirements.now a.periods.now a.counts.now a.bytes.now a.m a.t c.if-counts-n.false c.if-bytes-n.false _
+    (sym c.admit.ensures ∙ c.in-Refused.is)) in
+    record {
+      answer = r.0;
+      counts = r.1.0;
+      bytes = r.1.1;
+    }
