@@ -21,7 +21,7 @@ pub struct Task {
 }
 
 // The first 64 records as three lists, and how many records there are in all.
-#[derive(Drop)]
+#[derive(Clone, Copy)]
 struct Apart {
     requirements: [u32; 64],
     periods: [u32; 64],
@@ -30,7 +30,7 @@ struct Apart {
 }
 
 // What a slot answered, and how many of these counts go back into the records.
-#[derive(Drop)]
+#[derive(Clone, Copy)]
 struct Dealt {
     outcome: Outcome,
     counts: [u32; 64],

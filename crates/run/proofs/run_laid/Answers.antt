@@ -1,0 +1,78 @@
+use mathlib.Core.Path.{◌≡◌, refl, sym, ap, ◌∙◌}
+use Prim.Native.Nat.{ℕ, ◌+◌, ◌-◌, ◌*◌, ◌≤◌, ◌<◌}
+use native.Mathlib.Omega.{arith}
+use native.Mathlib.Numerals.{add-one}
+use borrow.Author.Rules.{rules}
+use lib.ListN.{length}
+use Rattle.rule.specs.declared.Outcome.TheVariants.{Done}
+use Rattle.run.proofs.Turns.{Going, going_start, going_end, part_inside}
+use Rattle.run.proofs.Laid.{Laid, parts, turned_refused, turned_done}
+use Rattle.run.proofs.run_laid.Goals.{Start}
+use Rattle.run.proofs.run_laid.Goals as goal
+
+-- the set that is laid out, as the turns rely on it
+laid : (c : Start) → Laid c.args.requirements.now c.args.periods.now c.args.m c.args.es.now c.args.ps.now c.args.units
+laid c =
+    record {
+      same = c.requires.periods_len.0;
+      pass = c.requires.periods_len.1;
+      requirements = c.requires.es_value.0;
+      periods = c.requires.es_value.1;
+      in_use = c.requires.units_value;
+    }
+
+pub loop-done-init : goal.loop-done-init
+loop-done-init c =
+    going_start c.args.requirements.now c.args.periods.now c.args.m c.args.slots c.args.t c.args.counts.now c.args.log.now c.requires.counts_len.0
+    c.requires.counts_len.1
+
+pub overflow_add-to : goal.overflow_add-to
+overflow_add-to c =
+    let a = c.args in
+    let inside =
+    part_inside a.requirements.now a.periods.now a.m a.slots a.t a.counts.now a.log.now c.loop-done.counts c.loop-done.log c.loop-done.done c.loop-done.from
+    c.loop-done.invariant c.loop-done-test.true
+    in omega arith
+
+pub deal_part-outcome-requires : goal.deal_part-outcome-requires
+deal_part-outcome-requires c =
+    let a = c.args in (
+      omega arith,
+      part_inside a.requirements.now a.periods.now a.m a.slots a.t a.counts.now a.log.now c.loop-done.counts c.loop-done.log c.loop-done.done c.loop-done.from
+          c.loop-done.invariant c.loop-done-test.true,
+    )
+
+pub returns-in-Refused : goal.returns-in-Refused
+returns-in-Refused c =
+    let a = c.args in
+    let r = parts
+    (turned_refused a.requirements.now a.periods.now a.m a.es.now a.ps.now a.units (laid c.before.before.before.before.before.before.before.before.before.before.before.before.before.before.before.before.before.before) a.slots a.t a.counts.now a.log.now c.loop-done.counts
+    c.loop-done.log c.loop-done.done c.loop-done.from c.loop-done.invariant c.loop-done-test.true _ _ c.deal_part-outcome.ensures.counts c.deal_part-outcome.ensures.log _ (sym c.deal_part-outcome.ensures.answer ∙ c.in-Refused.is)) in
+    record {
+      answer = r.0;
+      counts = r.1.0;
+      log = r.1.1;
+    }
+
+pub loop-done-preserved : goal.loop-done-preserved
+loop-done-preserved c =
+    let a = c.args in
+    turned_done a.requirements.now a.periods.now a.m a.es.now a.ps.now a.units (laid c.before.before.before.before.before.before.before.before.before.before.before.before.before.before.before.before.before) a.slots a.t a.counts.now a.log.now c.loop-done.counts
+    c.loop-done.log c.loop-done.done c.loop-done.from c.loop-done.invariant c.loop-done-test.true _ _ c.deal_part-outcome.ensures.counts c.deal_part-outcome.ensures.log (sym c.deal_part-outcome.ensures.answer ∙ c.in_default.is)
+
+pub returns : goal.returns
+returns c =
+    let a = c.args in
+    let all : a.slots ≡ c.loop-done.done = omega (arith, c.loop-done.invariant.few) in
+    let p =
+    parts
+    (sym
+    (going_end a.requirements.now a.periods.now a.m a.slots a.t a.counts.now a.log.now c.loop-done.counts c.loop-done.log c.loop-done.done c.loop-done.from
+    c.loop-done.invariant c.loop-done-test.false))
+    in
+    let r = (ap (λ d. record { done = d; end = Done }) all ∙ p.0, p.1) in
+    record {
+      answer = r.0;
+      counts = r.1.0;
+      log = r.1.1;
+    }
