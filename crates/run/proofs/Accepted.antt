@@ -1,12 +1,12 @@
 -- A run of a set, by what is asked first: too many slots or another length is the run's own refusal, no slots are none done, a refusal
 -- of admission is that of the first slot, and of an accepted set the laid-out field is run. Assumes nothing.
-use mathlib.Core.Path.{◌≡◌, refl, sym, ap, ◌∙◌, subst}
-use mathlib.Core.Bool.{Bool, true, false, not, ◌||◌}
+use mathlib.Core.Path.{◌≡◌, sym, ap, ◌∙◌}
+use mathlib.Core.Bool.{true, not, ◌||◌}
 use mathlib.Core.List.{List, [], ◌∷◌}
-use Prim.Native.Nat.{ℕ, zero, suc, ◌-◌, ◌*◌, ◌≤◌, ◌<◌}
+use Prim.Native.Nat.{ℕ, suc, ◌-◌, ◌*◌, ◌≤◌, ◌<◌}
 use native.Mathlib.Omega.{arith}
-use borrow.Author.Tests.{eq-eqb, ne_eqb, lt-ltb, le-ltb}
-use lib.Dec.{ltb, eqb}
+use borrow.Author.Tests.{eq-eqb, lt-ltb, le-ltb}
+use lib.Dec.{eqb}
 use lib.ListN.{length, take, drop, length-take}
 use Rattle.rule.specs.declared.Accepted.{Accepted}
 use Rattle.rule.specs.declared.Admission.TheVariants.{Accepted as accepted, Refused as not_admitted}
@@ -15,7 +15,7 @@ use Rattle.rule.specs.declared.Refusal.{Refusal}
 use Rattle.rule.specs.declared.Refusal.TheVariants.{Lengths, Slots}
 use Rattle.rule.specs.Limits.{slots_most}
 use Rattle.rule.specs.Refusals.{passed, first, differ, set_checks, run_checks}
-use Rattle.rule.specs.Outcomes.{acceptance, admission, slot, RunAfter, stopped, after_slot, slots_from, run_by, run}
+use Rattle.rule.specs.Outcomes.{acceptance, admission, slot, stopped, after_slot, slots_from, run_by, run}
 use Rattle.rule.proofs.Sets.{AcceptedSet, accepted_set}
 use Rattle.admission.proofs.Laws.{accepted_tells}
 use Rattle.field.specs.declared.Laid.{Laid as Layout}

@@ -1,22 +1,21 @@
 -- A slot of a set, by what admission answers: another length or a refusal of admission is the slot's own, and of an accepted set the
 -- laid-out field is dealt. Assumes nothing.
-use mathlib.Core.Path.{◌≡◌, refl, sym, subst}
-use mathlib.Core.Bool.{Bool, true, false, not, ◌||◌}
+use mathlib.Core.Path.{◌≡◌}
+use mathlib.Core.Bool.{true}
 use mathlib.Core.List.{List, [], ◌∷◌, ◌++◌}
-use Prim.Native.Nat.{ℕ, ◌≤◌, ◌<◌}
-use borrow.Author.Tests.{eq-eqb, ne_eqb}
-use lib.Dec.{eqb}
+use Prim.Native.Nat.{ℕ, ◌≤◌}
+use borrow.Author.Tests.{eq-eqb}
 use lib.ListN.{length, take}
 use Rattle.rule.specs.declared.Accepted.{Accepted}
 use Rattle.rule.specs.declared.Admission.TheVariants.{Accepted as accepted, Refused as not_admitted}
 use Rattle.rule.specs.declared.Outcome.TheVariants.{Refused}
 use Rattle.rule.specs.declared.Refusal.{Refusal}
 use Rattle.rule.specs.declared.Refusal.TheVariants.{Lengths}
-use Rattle.rule.specs.Refusals.{passed, refused, first, differ, times, lags, classes, set_checks, admission_checks, slot_checks}
+use Rattle.rule.specs.Refusals.{passed, first, differ, times, lags, classes, set_checks, admission_checks, slot_checks}
 use Rattle.rule.specs.Outcomes.{acceptance, admission, SlotAfter, slot_by, slot}
 use Rattle.rule.proofs.Sets.{AcceptedSet, accepted_set}
 use Rattle.rule.proofs.Refusals.{or_next, first_or, given_first, admission_refusal}
-use Rattle.admission.proofs.Laws.{accepted_tells, refused_tells}
+use Rattle.admission.proofs.Laws.{accepted_tells}
 use Rattle.field.specs.declared.Laid.{Laid}
 use Rattle.field.specs.LayOut.{lay_out}
 use Rattle.field.proofs.Accepted.{accepted_units, laid_fits as field_fits, accepted_requirements, accepted_periods}

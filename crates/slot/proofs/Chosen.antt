@@ -1,14 +1,14 @@
 -- The choice read off the rungs is the rule's: a rung is 4 exactly for an urgent place and 1 to 3 exactly for a contender, so the
 -- counts and the order are the field's own. Assumes nothing.
-use mathlib.Core.Path.{◌≡◌, refl, sym, ap, subst}
-use mathlib.Core.Bool.{Bool, true, false, cond, ◌&&◌, ◌||◌}
+use mathlib.Core.Path.{◌≡◌, refl, sym, ap}
+use mathlib.Core.Bool.{true, false, cond, ◌&&◌}
 use mathlib.Core.List.{List}
 use Prim.Native.Nat.{ℕ, ◌+◌, ◌≤◌, ◌<◌}
 use lib.ListN.{length}
 use Rattle.rule.specs.declared.Standing.{Standing}
 use Rattle.rule.specs.declared.Standing.TheVariants.{Ahead, Punctual, Behind}
 use Rattle.rule.specs.Limits.{within}
-use Rattle.rule.specs.Places.{bit, sum, count}
+use Rattle.rule.specs.Places.{count}
 use Rattle.rule.specs.Task.{Entry, standing}
 use Rattle.rule.specs.Sets.{Field}
 use Rattle.rule.specs.Slot.{tnegru, urgent, contending, urgents, not_tnegrus, precedes, contenders_before, chosen}

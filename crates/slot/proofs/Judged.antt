@@ -1,30 +1,28 @@
 -- What a judge's answer makes of a slot: a refusal is the slot's own, and where there is none the rungs are the field's, every count is
 -- small, and what is dealt by the rungs is what the definition deals. Assumes nothing.
 use mathlib.Core.Path.{◌≡◌, refl, sym, ap, ◌∙◌, subst}
-use mathlib.Core.Bool.{Bool, true, false, cond, not, ◌&&◌, ◌||◌}
-use mathlib.Core.List.{List, [], ◌∷◌, ◌++◌}
-use Prim.Native.Nat.{ℕ, suc, ◌+◌, ◌*◌, ◌≤◌, ◌<◌}
+use mathlib.Core.Bool.{Bool, true, false, cond, ◌||◌}
+use mathlib.Core.List.{List, [], ◌∷◌}
+use Prim.Native.Nat.{ℕ, suc, ◌+◌, ◌≤◌, ◌<◌}
 use native.Mathlib.Nat.{mul-le-mul_right, lt_of_mul-lt-mul_left}
 use native.Mathlib.Omega.{arith}
-use borrow.Author.Tests.{eq-eqb, ne_eqb, eqb-true, ltb-false, leb-false, not-false, lt-ltb}
-use lib.Dec.{ltb, leb, eqb}
+use borrow.Author.Tests.{eq-eqb, ne_eqb, ltb-false, leb-false, not-false, lt-ltb}
+use lib.Dec.{ltb}
 use lib.ListN.{length}
 use Rattle.rule.specs.declared.Outcome.TheVariants.{Done, Refused}
 use Rattle.rule.specs.declared.Refusal.{Refusal}
 use Rattle.rule.specs.declared.Refusal.TheVariants.{Lengths, Stuck}
-use Rattle.rule.specs.Limits.{multiple_most, time_most, tasks_most, within, bounded_by}
-use Rattle.rule.specs.Places.{at, bit, each, lowest}
+use Rattle.rule.specs.Limits.{multiple_most, time_most, tasks_most, within}
+use Rattle.rule.specs.Places.{at, bit, each}
 use Rattle.rule.specs.Task.{fair}
 use Rattle.rule.specs.Slot.{urgents, chosen}
-use Rattle.rule.specs.Refusals.{Check, check, passed, refused, first}
-use Rattle.rule.specs.Outcomes.{SlotAfter}
-use Rattle.rule.proofs.Lags.{counted, Bounds, fair_bounds}
+use Rattle.rule.specs.Refusals.{check, passed, refused, first}
+use Rattle.rule.proofs.Lags.{fair_bounds}
 use Rattle.rule.proofs.Limits.{bounded_numbers, within_numbers}
-use Rattle.rule.proofs.Places.{length_each, each_ext, lowest_first, lowest_le}
+use Rattle.rule.proofs.Places.{length_each, each_ext}
 use Rattle.rule.proofs.Refusals.{NoneHolds, none, and, or_next, first_or, first_none}
-use Rattle.rule.proofs.Tests.{both_true}
 use Rattle.standing.specs.declared.Judged.{Judged}
-use Rattle.standing.specs.Laid.{laid_count, laid_entry, laid_field, is_laid_out, wild_place, laid_unfair, laid_unfair_place, laid_checks}
+use Rattle.standing.specs.Laid.{laid_count, laid_entry, laid_field, is_laid_out, wild_place, laid_unfair_place, laid_checks}
 use Rattle.standing.specs.Judged.{rungs_of, judged}
 use Rattle.standing.specs.Sound.{Sound}
 use Rattle.standing.proofs.Answers.{sound_lists, all_fair}

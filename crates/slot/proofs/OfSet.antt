@@ -1,20 +1,17 @@
 -- Dealing the laid-out field of an accepted set is the set's slot: the checks that are left are those of the time, the lags and the
 -- classes, and the choice depends on the field's entries alone, which are the set's. Assumes nothing.
-use mathlib.Core.Path.{◌≡◌, refl, sym, ap, ◌∙◌, subst}
-use mathlib.Core.Bool.{Bool, true, false, not, ◌||◌}
-use mathlib.Core.List.{List, [], ◌∷◌, ◌++◌}
-use Prim.Native.Nat.{ℕ, ◌+◌, ◌≤◌, ◌<◌}
-use native.Mathlib.Omega.{arith}
+use mathlib.Core.Path.{◌≡◌, refl, sym, ap, ◌∙◌}
+use mathlib.Core.List.{List, [], ◌∷◌}
+use Prim.Native.Nat.{ℕ, ◌+◌, ◌<◌}
 use borrow.Author.Tests.{eq-eqb}
-use lib.Dec.{ltb, eqb}
 use lib.ListN.{length}
 use Rattle.rule.specs.declared.Refusal.TheVariants.{Stuck}
 use Rattle.rule.specs.declared.Outcome.TheVariants.{Done}
 use Rattle.rule.specs.Places.{at, bit, each}
 use Rattle.rule.specs.Sets.{units_in_use, Field, field}
-use Rattle.rule.specs.Slot.{urgents, not_tnegrus, chosen}
+use Rattle.rule.specs.Slot.{chosen}
 use Rattle.rule.specs.Refusals.{Check, check, Verdict, passed, refused, first, differ, times, lags, classes, set_checks, slot_checks}
-use Rattle.rule.specs.Outcomes.{SlotAfter, runs_at, counts_after, bytes_after, slot_by, slot}
+use Rattle.rule.specs.Outcomes.{runs_at, counts_after, bytes_after, slot_by, slot}
 use Rattle.rule.proofs.Fields.{same_urgents, same_not_tnegrus, same_chosen}
 use Rattle.rule.proofs.Places.{each_ext}
 use Rattle.rule.proofs.Placed.{size, field_size, task_place}

@@ -1,12 +1,10 @@
 -- The parts of what a slot leaves, and what is dealt by the rungs in each case: too many urgent, too few others, or a choice.
 -- Assumes nothing.
-use mathlib.Core.Path.{◌≡◌, refl, sym, ap, ◌∙◌}
-use mathlib.Core.Bool.{Bool, true, false, ◌||◌}
+use mathlib.Core.Path.{◌≡◌, ap}
 use mathlib.Core.List.{List}
 use Prim.Native.Nat.{ℕ, ◌+◌, ◌-◌, ◌≤◌, ◌<◌}
 use native.Mathlib.Omega.{arith}
 use borrow.Author.Tests.{lt-ltb, le-ltb}
-use lib.Dec.{ltb}
 use lib.ListN.{length}
 use Rattle.rule.specs.declared.Outcome.TheVariants.{Done, Refused}
 use Rattle.rule.specs.declared.Refusal.TheVariants.{Stuck}

@@ -1,7 +1,6 @@
 -- `list` meets its contract: each way out is the listing's own first refusal, or the listing of an accepted set. Assumes nothing.
 use mathlib.Core.Path.{sym, ◌∙◌}
 use mathlib.Core.List.{[], ◌∷◌}
-use borrow.Author.Rules.{rules}
 use lib.ListN.{length}
 use Rattle.rule.proofs.Refusals.{differ_here, differ_later}
 use Rattle.listing.proofs.Accepted.{parts, listing_lengths, listing_refused}
@@ -32,9 +31,9 @@ returns-then-bytes-n c =
 
 pub list_accepted-requires : goal.list_accepted-requires
 list_accepted-requires c = record {
-      m_value = sym c.admit.ensures ∙ c.in-Accepted.is;
-      counts_len = (c.if-counts-n.false, c.if-bytes-n.false);
-    }
+  m_value = sym c.admit.ensures ∙ c.in-Accepted.is;
+  counts_len = (c.if-counts-n.false, c.if-bytes-n.false);
+}
 
 pub returns-in-Refused : goal.returns-in-Refused
 returns-in-Refused c =

@@ -1,13 +1,10 @@
 use mathlib.Core.Path.{◌≡◌, ◌∙◌}
-use mathlib.Core.List.{List}
-use Prim.Native.Nat.{ℕ, ◌-◌, ◌≤◌}
 use native.Mathlib.Numerals.{add-one}
 use native.Mathlib.Omega.{arith}
 use borrow.Author.Rules.{rules}
 use lib.ListN.{length, length-set}
-use Rattle.rule.specs.Places.{at}
-use Rattle.rule.proofs.Written.{written, written_none, written_set, written_all}
-use Rattle.listing.specs.Marks.{mark_by, marks_by}
+use Rattle.rule.proofs.Written.{written_none, written_set, written_all}
+use Rattle.listing.specs.Marks.{marks_by}
 use Rattle.listing.proofs.write_marks.Invariants.{marked}
 use Rattle.listing.proofs.write_marks.Goals as goal
 

@@ -1,15 +1,12 @@
 -- `write_marks` meets its contract. The loop's invariant: the bytes up to place i are the marks of their rungs, and the rest is as it
 -- was. The measure is what is left of the bytes. Assumes nothing.
-use mathlib.Core.Path.{◌≡◌, ◌∙◌}
+use mathlib.Core.Path.{◌≡◌}
 use mathlib.Core.List.{List}
 use Prim.Native.Nat.{ℕ, ◌-◌, ◌≤◌}
-use native.Mathlib.Numerals.{add-one}
-use native.Mathlib.Omega.{arith}
-use borrow.Author.Rules.{rules}
-use lib.ListN.{length, length-set}
+use lib.ListN.{length}
 use Rattle.rule.specs.Places.{at}
-use Rattle.rule.proofs.Written.{written, written_none, written_set, written_all}
-use Rattle.listing.specs.Marks.{mark_by, marks_by}
+use Rattle.rule.proofs.Written.{written}
+use Rattle.listing.specs.Marks.{mark_by}
 use Rattle.listing.proofs.write_marks.Given as goal
 
 -- The mark of the rung at place i.

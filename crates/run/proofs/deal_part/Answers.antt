@@ -3,7 +3,6 @@ use mathlib.Core.Path.{ap}
 use mathlib.Core.List.{◌++◌}
 use Prim.Native.Nat.{◌-◌}
 use lib.ListN.{take, drop}
-use borrow.Author.Rules.{rules}
 use Rattle.run.proofs.deal_part.Goals as goal
 
 pub returns : goal.returns

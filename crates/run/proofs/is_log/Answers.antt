@@ -1,6 +1,5 @@
 -- `is_log` meets its contract: each way out is what quotient and remainder say of the product. Assumes nothing.
 use Rattle.run.proofs.Logs.{log_none, log_ragged, log_even}
-use borrow.Author.Rules.{rules}
 use Rattle.run.proofs.is_log.Goals as goal
 
 pub returns-then-slots-eq0 : goal.returns-then-slots-eq0

@@ -1,10 +1,10 @@
 -- `run` meets its contract: each way out is the run's own first refusal, a run of no slots, or the slots of an accepted set. Assumes
 -- nothing.
-use mathlib.Core.Path.{◌≡◌, sym, ap, ◌∙◌}
+use mathlib.Core.Path.{sym, ap, ◌∙◌}
 use mathlib.Core.Bool.{not}
 use mathlib.Core.List.{[], ◌∷◌}
 use Prim.Native.Nat.{◌*◌}
-use borrow.Author.Tests.{eqb-true, not-true, not-false}
+use borrow.Author.Tests.{eqb-true}
 use lib.Dec.{eqb}
 use lib.ListN.{length}
 use Rattle.rule.specs.Refusals.{differ}
@@ -12,18 +12,16 @@ use Rattle.rule.proofs.Refusals.{differ_here, differ_later}
 use Rattle.rule.proofs.Tests.{or_left, or_right}
 use Rattle.run.proofs.Laid.{parts}
 use Rattle.run.proofs.Accepted.{run_too_long, run_lengths, run_none, run_not_admitted, run_slots}
-use borrow.Author.Rules.{rules}
 use Rattle.run.proofs.run.Goals as goal
 
 pub returns-then-slots-gt-SLOTS_MOST : goal.returns-then-slots-gt-SLOTS_MOST
 returns-then-slots-gt-SLOTS_MOST c =
     let a = c.args in
     let p = parts (run_too_long a.slots a.requirements.now a.periods.now a.counts.now a.log.now a.m a.t c.if-slots-gt-SLOTS_MOST.true) in
-    let r = (c.stopped.ensures ∙ p.0, p.1) in
     record {
-      answer = r.0;
-      counts = r.1.0;
-      log = r.1.1;
+      answer = c.stopped.ensures ∙ p.0;
+      counts = p.1.0;
+      log = p.1.1;
     }
 
 pub returns-then-periods-n : goal.returns-then-periods-n
@@ -34,11 +32,10 @@ returns-then-periods-n c =
     (run_lengths a.slots a.requirements.now a.periods.now a.counts.now a.log.now a.m a.t c.if-slots-gt-SLOTS_MOST.false
     (or_left _ _ (differ_here (length a.requirements.now) (length a.periods.now) (length a.counts.now ∷ []) c.if-periods-n.true)))
     in
-    let r = (c.stopped-then-periods-n.ensures ∙ p.0, p.1) in
     record {
-      answer = r.0;
-      counts = r.1.0;
-      log = r.1.1;
+      answer = c.stopped-then-periods-n.ensures ∙ p.0;
+      counts = p.1.0;
+      log = p.1.1;
     }
 
 pub returns-then-counts-n : goal.returns-then-counts-n
@@ -51,11 +48,10 @@ returns-then-counts-n c =
     (differ_later (length a.requirements.now) (length a.periods.now) (length a.counts.now ∷ [])
     (differ_here (length a.requirements.now) (length a.counts.now) [] c.if-counts-n.true))))
     in
-    let r = (c.stopped-then-counts-n.ensures ∙ p.0, p.1) in
     record {
-      answer = r.0;
-      counts = r.1.0;
-      log = r.1.1;
+      answer = c.stopped-then-counts-n.ensures ∙ p.0;
+      counts = p.1.0;
+      log = p.1.1;
     }
 
 pub returns-then-not-is_log : goal.returns-then-not-is_log
@@ -68,11 +64,10 @@ returns-then-not-is_log c =
     (or_right (differ (length a.requirements.now) (length a.periods.now ∷ length a.counts.now ∷ []))
     (not (eqb (length a.log.now) (a.slots * length a.requirements.now))) (ap not other)))
     in
-    let r = (c.stopped-then-not-is_log.ensures ∙ p.0, p.1) in
     record {
-      answer = r.0;
-      counts = r.1.0;
-      log = r.1.1;
+      answer = c.stopped-then-not-is_log.ensures ∙ p.0;
+      counts = p.1.0;
+      log = p.1.1;
     }
 
 pub returns-then-slots-eq0 : goal.returns-then-slots-eq0
@@ -104,11 +99,10 @@ returns-in-Refused c =
     (eqb-true (length a.log.now) (a.slots * length a.requirements.now) (sym c.is_log.ensures ∙ c.if-not-is_log.false)) c.if-slots-eq0.false _
     (sym c.admit.ensures ∙ c.in-Refused.is))
     in
-    let r = (c.stopped-in-Refused.ensures ∙ p.0, p.1) in
     record {
-      answer = r.0;
-      counts = r.1.0;
-      log = r.1.1;
+      answer = c.stopped-in-Refused.ensures ∙ p.0;
+      counts = p.1.0;
+      log = p.1.1;
     }
 
 pub returns-in-Accepted : goal.returns-in-Accepted

@@ -1,25 +1,9 @@
-use mathlib.Core.Path.{◌≡◌, refl, sym, ap, ◌∙◌}
-use Prim.Native.Nat.{ℕ, ◌+◌, ◌-◌, ◌*◌, ◌≤◌, ◌<◌}
+use mathlib.Core.Path.{◌≡◌, sym, ap, ◌∙◌}
 use native.Mathlib.Omega.{arith}
-use native.Mathlib.Numerals.{add-one}
-use borrow.Author.Rules.{rules}
-use lib.ListN.{length}
 use Rattle.rule.specs.declared.Outcome.TheVariants.{Done}
-use Rattle.run.proofs.Turns.{Going, going_start, going_end, part_inside}
+use Rattle.run.proofs.Turns.{going_start, going_end, part_inside}
 use Rattle.run.proofs.Laid.{Laid, parts, turned_refused, turned_done}
-use Rattle.run.proofs.run_laid.Goals.{Start}
 use Rattle.run.proofs.run_laid.Goals as goal
-
--- the set that is laid out, as the turns rely on it
-laid : (c : Start) → Laid c.args.requirements.now c.args.periods.now c.args.m c.args.es.now c.args.ps.now c.args.units
-laid c =
-    record {
-      same = c.requires.periods_len.0;
-      pass = c.requires.periods_len.1;
-      requirements = c.requires.es_value.0;
-      periods = c.requires.es_value.1;
-      in_use = c.requires.units_value;
-    }
 
 pub loop-done-init : goal.loop-done-init
 loop-done-init c =
@@ -44,9 +28,18 @@ deal_part-outcome-requires c =
 
 pub returns-in-Refused : goal.returns-in-Refused
 returns-in-Refused c =
+    -- the set that is laid out, as the turns rely on it
     let a = c.args in
+    let laid : Laid a.requirements.now a.periods.now a.m a.es.now a.ps.now a.units =
+    record {
+      same = c.requires.periods_len.0;
+      pass = c.requires.periods_len.1;
+      requirements = c.requires.es_value.0;
+      periods = c.requires.es_value.1;
+      in_use = c.requires.units_value;
+    } in
     let r = parts
-    (turned_refused a.requirements.now a.periods.now a.m a.es.now a.ps.now a.units (laid c.before.before.before.before.before.before.before.before.before.before.before.before.before.before.before.before.before.before) a.slots a.t a.counts.now a.log.now c.loop-done.counts
+    (turned_refused a.requirements.now a.periods.now a.m a.es.now a.ps.now a.units laid a.slots a.t a.counts.now a.log.now c.loop-done.counts
     c.loop-done.log c.loop-done.done c.loop-done.from c.loop-done.invariant c.loop-done-test.true _ _ c.deal_part-outcome.ensures.counts c.deal_part-outcome.ensures.log _ (sym c.deal_part-outcome.ensures.answer ∙ c.in-Refused.is)) in
     record {
       answer = r.0;
@@ -56,8 +49,17 @@ returns-in-Refused c =
 
 pub loop-done-preserved : goal.loop-done-preserved
 loop-done-preserved c =
+    -- the set that is laid out, as the turns rely on it
     let a = c.args in
-    turned_done a.requirements.now a.periods.now a.m a.es.now a.ps.now a.units (laid c.before.before.before.before.before.before.before.before.before.before.before.before.before.before.before.before.before) a.slots a.t a.counts.now a.log.now c.loop-done.counts
+    let laid : Laid a.requirements.now a.periods.now a.m a.es.now a.ps.now a.units =
+    record {
+      same = c.requires.periods_len.0;
+      pass = c.requires.periods_len.1;
+      requirements = c.requires.es_value.0;
+      periods = c.requires.es_value.1;
+      in_use = c.requires.units_value;
+    } in
+    turned_done a.requirements.now a.periods.now a.m a.es.now a.ps.now a.units laid a.slots a.t a.counts.now a.log.now c.loop-done.counts
     c.loop-done.log c.loop-done.done c.loop-done.from c.loop-done.invariant c.loop-done-test.true _ _ c.deal_part-outcome.ensures.counts c.deal_part-outcome.ensures.log (sym c.deal_part-outcome.ensures.answer ∙ c.in_default.is)
 
 pub returns : goal.returns
@@ -70,9 +72,8 @@ returns c =
     (going_end a.requirements.now a.periods.now a.m a.slots a.t a.counts.now a.log.now c.loop-done.counts c.loop-done.log c.loop-done.done c.loop-done.from
     c.loop-done.invariant c.loop-done-test.false))
     in
-    let r = (ap (λ d. record { done = d; end = Done }) all ∙ p.0, p.1) in
     record {
-      answer = r.0;
-      counts = r.1.0;
-      log = r.1.1;
+      answer = ap (λ d. record { done = d; end = Done }) all ∙ p.0;
+      counts = p.1.0;
+      log = p.1.1;
     }

@@ -1,14 +1,7 @@
 -- The loop's invariant is `Going`: the done slots have their part of the log, and the run of the rest is what is left of it. A slot on
 -- the laid-out field is the set's own, so a turn keeps it. The measure is the slots that are left. Assumes nothing.
-use mathlib.Core.Path.{◌≡◌, refl, sym, ap, ◌∙◌}
-use Prim.Native.Nat.{ℕ, ◌+◌, ◌-◌, ◌*◌, ◌≤◌, ◌<◌}
-use native.Mathlib.Omega.{arith}
-use native.Mathlib.Numerals.{add-one}
-use borrow.Author.Rules.{rules}
-use lib.ListN.{length}
-use Rattle.rule.specs.declared.Outcome.TheVariants.{Done}
-use Rattle.run.proofs.Turns.{Going, going_start, going_end, part_inside}
-use Rattle.run.proofs.Laid.{Laid, parts, turned_refused, turned_done}
+use Prim.Native.Nat.{◌-◌}
+use Rattle.run.proofs.Turns.{Going}
 use Rattle.run.proofs.run_laid.Given as goal
 
 abbrev pub invariant-loop-done : goal.invariant-loop-done

@@ -1,9 +1,7 @@
 -- `slot::before` meets its contract: a place off the rungs 1 to 3 answers 0, and for another the answer is that of `goes_first`,
 -- whose lists are within their limits by `Choosing`. Assumes nothing.
 use mathlib.Core.Path.{◌≡◌}
-use mathlib.Core.Bool.{true}
 use native.Mathlib.Omega.{arith}
-use borrow.Author.Rules.{rules}
 use Rattle.slot.specs.Rungs.{on_contending, goes_before}
 use Rattle.slot.proofs.Laws.{told_no, told_yes}
 use Rattle.slot.proofs.before.Goals as goal

@@ -1,15 +1,11 @@
 -- `slot::choice_at` meets its contract: its tests are those of `chosen_by`, but that a contender's rank is asked for only where there are
 -- more contenders than room; where not, the rank is below the room, since it is below their number. What is known of the cut stays,
 -- or is what the contender's choice leaves. Assumes nothing.
-use mathlib.Core.Path.{◌≡◌}
-use mathlib.Core.Bool.{true}
-use Prim.Native.Nat.{ℕ, ◌+◌}
+use Prim.Native.Nat.{ℕ}
 use native.Mathlib.Omega.{arith}
-use borrow.Author.Rules.{rules}
 use borrow.Author.Tests.{lt-ltb}
-use lib.Dec.{ltb}
 use lib.ListN.{length}
-use Rattle.slot.specs.Rungs.{on_contending, rank_to, rungs_within, chosen_by}
+use Rattle.slot.specs.Rungs.{on_contending, rank_to}
 use Rattle.slot.proofs.Laws.{told_no, told_yes, rank_lt, chosen_urgent, chosen_neither, chosen_contending}
 use mathlib.Core.List.{List}
 use Prim.Native.Nat.{ℕ}
@@ -52,10 +48,10 @@ returns-then-contending-room c =
 
 pub choice_of_contender-requires : goal.choice_of_contender-requires
 choice_of_contender-requires c = record {
-      choosing = c.requires.choosing;
-      i_in_bounds = c.requires.i_in_bounds;
-      cut_2 = c.requires.cut_2;
-    }
+  choosing = c.requires.choosing;
+  i_in_bounds = c.requires.i_in_bounds;
+  cut_2 = c.requires.cut_2;
+}
 
 pub returns : goal.returns
 returns c =

@@ -1,9 +1,7 @@
 -- `slot::choice_of_contender` meets its contract: one of the two places that are known settles it by the order of ranks; or the count
 -- does, and then the place itself is known. Assumes nothing.
-use mathlib.Core.Path.{◌≡◌}
 use Prim.Native.Nat.{ℕ}
 use native.Mathlib.Omega.{arith}
-use borrow.Author.Rules.{rules}
 use borrow.Author.Tests.{lt-ltb, le-ltb, ltb-true, ltb-false}
 use lib.ListN.{length}
 use Rattle.slot.specs.Rungs.{rank_to}

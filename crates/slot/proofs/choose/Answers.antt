@@ -1,12 +1,11 @@
-use mathlib.Core.Path.{◌≡◌, refl, ◌∙◌}
-use mathlib.Core.List.{List}
-use Prim.Native.Nat.{ℕ, ◌+◌, ◌-◌, ◌≤◌}
+use mathlib.Core.Path.{refl, ◌∙◌}
+use Prim.Native.Nat.{◌+◌}
 use native.Mathlib.Omega.{arith}
 use borrow.Author.Rules.{rules}
 use lib.ListN.{length, length-set}
-use Rattle.rule.specs.Places.{at, bit}
-use Rattle.rule.proofs.Written.{written, written_none}
-use Rattle.slot.specs.Rungs.{Cut, rungs_within, chosen_by}
+use Rattle.rule.specs.Places.{at}
+use Rattle.rule.proofs.Written.{written_none}
+use Rattle.slot.specs.Rungs.{rungs_within, chosen_by}
 use Rattle.slot.proofs.Laws.{told_few, next_is, turn_written, all_written}
 use Rattle.slot.proofs.choose.Invariants.{picked, raised}
 use Rattle.slot.proofs.choose.Goals as goal
@@ -16,11 +15,11 @@ loop-i-init c = (search rules, search rules, search rules, written_none _ _, wri
 
 pub choice_at-known-requires : goal.choice_at-known-requires
 choice_at-known-requires c = record {
-      choosing = c.requires.choosing;
-      i_in_bounds = omega arith;
-      contending_value = c.requires.contending_value;
-      cut_2 = c.loop-i.invariant.5;
-    }
+  choosing = c.requires.choosing;
+  i_in_bounds = omega arith;
+  contending_value = c.requires.contending_value;
+  cut_2 = c.loop-i.invariant.5;
+}
 
 pub raise-requires : goal.raise-requires
 raise-requires c =

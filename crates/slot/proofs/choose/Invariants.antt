@@ -1,15 +1,12 @@
 -- `slot::choose` meets its contract. The loop's invariant: both lists are written up to place i, the counts with 1 more where `choice_at` says
 -- 1, and the rest is as it was; and what is known of the cut holds. The measure is what is left of the counts. Assumes nothing.
-use mathlib.Core.Path.{◌≡◌, refl, ◌∙◌}
+use mathlib.Core.Path.{◌≡◌}
 use mathlib.Core.List.{List}
 use Prim.Native.Nat.{ℕ, ◌+◌, ◌-◌, ◌≤◌}
-use native.Mathlib.Omega.{arith}
-use borrow.Author.Rules.{rules}
-use lib.ListN.{length, length-set}
+use lib.ListN.{length}
 use Rattle.rule.specs.Places.{at, bit}
-use Rattle.rule.proofs.Written.{written, written_none}
+use Rattle.rule.proofs.Written.{written}
 use Rattle.slot.specs.Rungs.{Cut, rungs_within, chosen_by}
-use Rattle.slot.proofs.Laws.{told_few, next_is, turn_written, all_written}
 use Rattle.slot.proofs.choose.Given as goal
 
 -- 1 where the slot runs place i, 0 where not.

@@ -1,11 +1,10 @@
 use mathlib.Core.Path.{◌≡◌}
-use Prim.Native.Nat.{◌-◌, ◌≤◌}
+use Prim.Native.Nat.{◌≤◌}
 use native.Mathlib.Numerals.{add-one}
 use native.Mathlib.Omega.{arith}
 use borrow.Author.Rules.{rules}
 use Rattle.rule.specs.Limits.{within}
 use Rattle.rule.specs.Places.{at, sum}
-use Rattle.slot.specs.Rungs.{rungs_within}
 use Rattle.slot.proofs.Laws.{told_few}
 use Rattle.slot.proofs.count_rungs.Goals.{After-on_rung-found}
 use Rattle.slot.proofs.count_rungs.Goals as goal

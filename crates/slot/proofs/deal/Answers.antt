@@ -3,7 +3,6 @@
 use mathlib.Core.Path.{sym, ap, ◌∙◌}
 use Rattle.slot.proofs.Parts.{parts}
 use Rattle.slot.proofs.Judged.{dealt_lengths, dealt_refused, ready, dealt_judged}
-use borrow.Author.Rules.{rules}
 use Rattle.slot.proofs.deal.Goals as goal
 
 pub returns-then-bytes-counts : goal.returns-then-bytes-counts

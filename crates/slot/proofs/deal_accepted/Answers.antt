@@ -1,40 +1,36 @@
 -- `deal_accepted` meets its contract: what is laid out is the accepted set's field, and dealing it is the set's slot. Assumes nothing.
 use mathlib.Core.Path.{sym, ◌∙◌}
-use Prim.Native.Nat.{◌≤◌}
-use lib.ListN.{length}
 use lib.Seq.{length-take-le}
-use Rattle.rule.specs.declared.Accepted.{Accepted}
 use Rattle.slot.proofs.Parts.{parts}
 use Rattle.slot.proofs.Accepted.{laid_fits, dealt_set}
-use borrow.Author.Rules.{rules}
 use Rattle.slot.proofs.deal_accepted.Goals as goal
 
 pub slice_bounds-es-end : goal.slice_bounds-es-end
 slice_bounds-es-end c =
     let a = c.args in
     let enough = laid_fits a.requirements.now a.periods.now a.counts.now a.bytes.now a.m a.t c.requires.counts_len.0 c.requires.counts_len.1
-        a.accepted c.requires.m_value c.lay_out-laid.result c.lay_out-laid.ensures in
+    a.accepted c.requires.m_value c.lay_out-laid.result c.lay_out-laid.ensures in
     enough.0
 
 pub slice_bounds-deal-end : goal.slice_bounds-deal-end
 slice_bounds-deal-end c =
     let a = c.args in
     let enough = laid_fits a.requirements.now a.periods.now a.counts.now a.bytes.now a.m a.t c.requires.counts_len.0 c.requires.counts_len.1
-        a.accepted c.requires.m_value c.lay_out-laid.result c.lay_out-laid.ensures in
+    a.accepted c.requires.m_value c.lay_out-laid.result c.lay_out-laid.ensures in
     sym (length-take-le _ _ enough.0)
 
 pub slice_bounds-ps-end : goal.slice_bounds-ps-end
 slice_bounds-ps-end c =
     let a = c.args in
     let enough = laid_fits a.requirements.now a.periods.now a.counts.now a.bytes.now a.m a.t c.requires.counts_len.0 c.requires.counts_len.1
-        a.accepted c.requires.m_value c.lay_out-laid.result c.lay_out-laid.ensures in
+    a.accepted c.requires.m_value c.lay_out-laid.result c.lay_out-laid.ensures in
     enough.1
 
 pub slice_bounds-deal-end-2 : goal.slice_bounds-deal-end-2
 slice_bounds-deal-end-2 c =
     let a = c.args in
     let enough = laid_fits a.requirements.now a.periods.now a.counts.now a.bytes.now a.m a.t c.requires.counts_len.0 c.requires.counts_len.1
-        a.accepted c.requires.m_value c.lay_out-laid.result c.lay_out-laid.ensures in
+    a.accepted c.requires.m_value c.lay_out-laid.result c.lay_out-laid.ensures in
     sym (length-take-le _ _ enough.1)
 
 pub returns : goal.returns

@@ -1,7 +1,6 @@
 -- `deal_judged` meets its contract: the two tests are refusal 9's, and the room that is left for contenders is M less the urgent ones.
 -- Assumes nothing.
 use Rattle.slot.proofs.Parts.{parts, stuck_urgent, stuck_few, not_stuck}
-use borrow.Author.Rules.{rules}
 use Rattle.slot.proofs.deal_judged.Goals as goal
 
 pub returns-then-units-urgent : goal.returns-then-units-urgent

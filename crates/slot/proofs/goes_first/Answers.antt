@@ -1,8 +1,5 @@
 -- `slot::goes_first` meets its contract: equal records tie, and of others the engine answers the comparison, since it takes both.
 -- Assumes nothing.
-use mathlib.Core.Path.{◌≡◌}
-use borrow.Author.Rules.{rules}
-use Rattle.rule.specs.Task.{compare}
 use Rattle.slot.proofs.Laws.{same_record, engine_says}
 use Rattle.slot.proofs.goes_first.Goals as goal
 

@@ -1,17 +1,8 @@
 -- `slot::has_room` meets its contract. The loop's invariant: `found` is the rank among the places before j, so at most j. The whole
 -- rank is no smaller, so that a room that is taken stays taken. The measure is what is left of the list. Assumes nothing.
-use mathlib.Core.Path.{◌≡◌, sym}
-use mathlib.Core.Bool.{◌&&◌}
+use mathlib.Core.Path.{◌≡◌}
 use Prim.Native.Nat.{◌-◌, ◌≤◌}
-use native.Mathlib.Numerals.{add-one}
-use native.Mathlib.Omega.{arith}
-use borrow.Author.Rules.{rules}
-use borrow.Author.Tests.{le-ltb}
-use lib.ListN.{length}
-use Rattle.rule.specs.Places.{sum}
-use Rattle.slot.specs.Rungs.{on_contending, goes_before, rank_to}
-use Rattle.slot.proofs.Laws.{told_few}
-use Rattle.slot.proofs.Room.{rank_grows}
+use Rattle.slot.specs.Rungs.{rank_to}
 use Rattle.slot.proofs.has_room.Given as goal
 
 abbrev pub invariant-loop-j : goal.invariant-loop-j

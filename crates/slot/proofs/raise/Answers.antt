@@ -2,7 +2,6 @@
 use mathlib.Core.Path.{◌≡◌}
 use Prim.Native.Nat.{◌+◌}
 use native.Mathlib.Omega.{arith}
-use borrow.Author.Rules.{rules}
 use lib.Seq.{set-get_or}
 use Rattle.rule.specs.Places.{at}
 use Rattle.slot.proofs.raise.Goals as goal

@@ -5,7 +5,6 @@ use lib.ListN.{length}
 use Rattle.rule.proofs.Refusals.{differ_here, differ_later}
 use Rattle.slot.proofs.Parts.{parts}
 use Rattle.slot.proofs.Accepted.{slot_lengths, slot_refused}
-use borrow.Author.Rules.{rules}
 use Rattle.slot.proofs.slot.Goals as goal
 
 pub returns-then-counts-n : goal.returns-then-counts-n
@@ -35,9 +34,9 @@ returns-then-bytes-n c =
 
 pub deal_accepted-requires : goal.deal_accepted-requires
 deal_accepted-requires c = record {
-      m_value = sym c.admit.ensures ∙ c.in-Accepted.is;
-      counts_len = (c.if-counts-n.false, c.if-bytes-n.false);
-    }
+  m_value = sym c.admit.ensures ∙ c.in-Accepted.is;
+  counts_len = (c.if-counts-n.false, c.if-bytes-n.false);
+}
 
 pub returns-in-Refused : goal.returns-in-Refused
 returns-in-Refused c =
