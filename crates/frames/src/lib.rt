@@ -93,8 +93,8 @@ fn run_part(
     kept: Kept,
     size: usize,
 ) -> Ran
-    requires n_in_bounds { (kept.n ≤ length requirements.now) × (kept.n ≤ length periods.now) × (kept.n ≤ length counts.old) }
-    requires size_in_bounds { size ≤ length log.old }
+    requires lists_hold_n { (kept.n ≤ length requirements.now) × (kept.n ≤ length periods.now) × (kept.n ≤ length counts.old) }
+    requires log_holds_size { size ≤ length log.old }
     ensures answer { result ≡ (run_of slots (take kept.n requirements.now) (take kept.n periods.now) (take kept.n counts.old) (take size log.old) kept.m kept.t).answer }
     ensures counts { take kept.n counts.new ≡ (run_of slots (take kept.n requirements.now) (take kept.n periods.now) (take kept.n counts.old) (take size log.old) kept.m kept.t).counts }
     ensures log { take size log.new ≡ (run_of slots (take kept.n requirements.now) (take kept.n periods.now) (take kept.n counts.old) (take size log.old) kept.m kept.t).log }
@@ -144,8 +144,8 @@ fn ran(
     slots: u32,
     out: &mut [u8],
 ) -> Answered
-    requires n_nonzero { (0 < kept.n) × (kept.n ≤ 64) }
-    requires n_in_bounds { (kept.n ≤ length requirements.now) × (kept.n ≤ length periods.now) × (kept.n ≤ length counts.old) × (log_most ≤ length log.old) }
+    requires some_tasks { (0 < kept.n) × (kept.n ≤ 64) }
+    requires lists_hold_n { (kept.n ≤ length requirements.now) × (kept.n ≤ length periods.now) × (kept.n ≤ length counts.old) × (log_most ≤ length log.old) }
     ensures session { session_of result.kept requirements.now periods.now counts.new ≡ (reply (session_of kept requirements.now periods.now counts.old) (a_run slots)).session }
     ensures text { out.new ≡ sets out.old 0 (reply (session_of kept requirements.now periods.now counts.old) (a_run slots)).text }
     ensures size { result.size ≡ length (reply (session_of kept requirements.now periods.now counts.old) (a_run slots)).text }
@@ -179,8 +179,8 @@ fn listed(
     log: &mut [u8],
     out: &mut [u8],
 ) -> usize
-    requires n_nonzero { (0 < kept.n) × (kept.n ≤ 64) }
-    requires n_in_bounds { (kept.n ≤ length requirements.now) × (kept.n ≤ length periods.now) × (kept.n ≤ length counts.now) × (log_most ≤ length log.old) }
+    requires some_tasks { (0 < kept.n) × (kept.n ≤ 64) }
+    requires lists_hold_n { (kept.n ≤ length requirements.now) × (kept.n ≤ length periods.now) × (kept.n ≤ length counts.now) × (log_most ≤ length log.old) }
     ensures text { out.new ≡ sets out.old 0 (reply (session_of kept requirements.now periods.now counts.now) a_listing).text }
     ensures size { result ≡ length (reply (session_of kept requirements.now periods.now counts.now) a_listing).text }
 {
@@ -204,8 +204,8 @@ fn admitted(
     n: usize,
     out: &mut [u8],
 ) -> Answered
-    requires line_value { (asked_by (read line.now) ≡ Asked.Admit m n) × (n ≤ 64) }
-    requires in_bounds { (64 ≤ length requirements.old) × (64 ≤ length periods.old) × (64 ≤ length counts.old) × (kept.n ≤ 64) }
+    requires asked { (asked_by (read line.now) ≡ Asked.Admit m n) × (n ≤ 64) }
+    requires room { (64 ≤ length requirements.old) × (64 ≤ length periods.old) × (64 ≤ length counts.old) × (kept.n ≤ 64) }
     ensures session { session_of result.kept requirements.new periods.new counts.new ≡ (reply (session_of kept requirements.old periods.old counts.old) (read line.now)).session }
     ensures text { out.new ≡ sets out.old 0 (reply (session_of kept requirements.old periods.old counts.old) (read line.now)).text }
     ensures size { result.size ≡ length (reply (session_of kept requirements.old periods.old counts.old) (read line.now)).text }
@@ -241,7 +241,7 @@ fn answer_run(
     out: &mut [u8],
 ) -> Answered
     requires n_bound { kept.n ≤ 64 }
-    requires in_bounds { (64 ≤ length requirements.now) × (64 ≤ length periods.now) × (64 ≤ length counts.old) × (log_most ≤ length log.old) }
+    requires room { (64 ≤ length requirements.now) × (64 ≤ length periods.now) × (64 ≤ length counts.old) × (log_most ≤ length log.old) }
     ensures session { session_of result.kept requirements.now periods.now counts.new ≡ (reply (session_of kept requirements.now periods.now counts.old) (a_run slots)).session }
     ensures text { out.new ≡ sets out.old 0 (reply (session_of kept requirements.now periods.now counts.old) (a_run slots)).text }
     ensures size { result.size ≡ length (reply (session_of kept requirements.now periods.now counts.old) (a_run slots)).text }
@@ -266,7 +266,7 @@ fn answer_list(
     out: &mut [u8],
 ) -> usize
     requires n_bound { kept.n ≤ 64 }
-    requires in_bounds { (64 ≤ length requirements.now) × (64 ≤ length periods.now) × (64 ≤ length counts.now) × (log_most ≤ length log.old) }
+    requires room { (64 ≤ length requirements.now) × (64 ≤ length periods.now) × (64 ≤ length counts.now) × (log_most ≤ length log.old) }
     ensures text { out.new ≡ sets out.old 0 (reply (session_of kept requirements.now periods.now counts.now) a_listing).text }
     ensures size { result ≡ length (reply (session_of kept requirements.now periods.now counts.now) a_listing).text }
 {

@@ -46,8 +46,8 @@ fn list_accepted(
     m: u32,
     t: u32,
 ) -> Outcome
-    requires m_value { admission requirements.now periods.now m ≡ Admission.Accepted accepted }
-    requires counts_len { (length counts.now ≡ length requirements.now) × (length bytes.old ≡ length requirements.now) }
+    requires admitted { admission requirements.now periods.now m ≡ Admission.Accepted accepted }
+    requires same_length { (length counts.now ≡ length requirements.now) × (length bytes.old ≡ length requirements.now) }
     ensures answer { result ≡ (listing requirements.now periods.now counts.now bytes.old m t).answer }
     ensures bytes { bytes.new ≡ (listing requirements.now periods.now counts.now bytes.old m t).bytes }
 {

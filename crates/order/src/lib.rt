@@ -56,8 +56,8 @@ fn rank(s: Symbol) -> u32
 
 // Follows both strings from t + 1 on, up to the first place where the two symbols differ or both are 0.
 fn follow(e: u32, p: u32, e2: u32, p2: u32, t: u32) -> Order
-    requires bounds { Bounds multiple_most e p }
-    requires bounds_2 { Bounds multiple_most e2 p2 }
+    requires first_bounds { Bounds multiple_most e p }
+    requires second_bounds { Bounds multiple_most e2 p2 }
     requires t_le_time_most { t ≤ time_most }
     ensures { result ≡ task.compare t e p e2 p2 }
 {

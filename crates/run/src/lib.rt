@@ -58,10 +58,10 @@ fn run_laid(
     m: u32,
     t: u32,
 ) -> Ran
-    requires periods_len { (length periods.now ≡ length requirements.now) × (first (set_checks requirements.now periods.now m) ≡ passed) }
-    requires es_value { (es.now ≡ laid_requirements requirements.now periods.now) × (ps.now ≡ laid_periods requirements.now periods.now) }
-    requires units_value { units ≡ units_in_use requirements.now periods.now }
-    requires counts_len { (length counts.old ≡ length requirements.now) × (length log.old ≡ slots * length requirements.now) × (slots ≤ slots_most) }
+    requires set_passes { (length periods.now ≡ length requirements.now) × (first (set_checks requirements.now periods.now m) ≡ passed) }
+    requires laid_out { (es.now ≡ laid_requirements requirements.now periods.now) × (ps.now ≡ laid_periods requirements.now periods.now) }
+    requires in_use { units ≡ units_in_use requirements.now periods.now }
+    requires lists_fit { (length counts.old ≡ length requirements.now) × (length log.old ≡ slots * length requirements.now) × (slots ≤ slots_most) }
     ensures answer { result ≡ (slots_from slots requirements.now periods.now m t counts.old log.old).answer }
     ensures counts { counts.new ≡ (slots_from slots requirements.now periods.now m t counts.old log.old).counts }
     ensures log { log.new ≡ (slots_from slots requirements.now periods.now m t counts.old log.old).log }
@@ -98,8 +98,8 @@ fn run_accepted(
     m: u32,
     t: u32,
 ) -> Ran
-    requires m_value { admission requirements.now periods.now m ≡ Admission.Accepted accepted }
-    requires counts_len { (length counts.old ≡ length requirements.now) × (length log.old ≡ slots * length requirements.now) × (slots ≤ slots_most) }
+    requires admitted { admission requirements.now periods.now m ≡ Admission.Accepted accepted }
+    requires lists_fit { (length counts.old ≡ length requirements.now) × (length log.old ≡ slots * length requirements.now) × (slots ≤ slots_most) }
     ensures answer { result ≡ (slots_from slots requirements.now periods.now m t counts.old log.old).answer }
     ensures counts { counts.new ≡ (slots_from slots requirements.now periods.now m t counts.old log.old).counts }
     ensures log { log.new ≡ (slots_from slots requirements.now periods.now m t counts.old log.old).log }

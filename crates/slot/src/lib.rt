@@ -26,8 +26,8 @@ struct Choice {
 
 // Does the first task go before the second, of which `lower` says whether its place is the lower one?
 fn goes_first(e: u32, p: u32, e2: u32, p2: u32, t: u32, lower: bool) -> bool
-    requires p_value { bounded_by multiple_most e p ≡ true }
-    requires p2_value { bounded_by multiple_most e2 p2 ≡ true }
+    requires first_bounded { bounded_by multiple_most e p ≡ true }
+    requires second_bounded { bounded_by multiple_most e2 p2 ≡ true }
     requires t_le_time_most { t ≤ time_most }
     ensures { result ≡ goes_first (compare t e p e2 p2) lower }
 {
@@ -131,7 +131,7 @@ fn choice_of_contender(
 ) -> Choice
     requires choosing { Choosing requirements.now periods.now rungs.now t }
     requires i_in_bounds { i < length requirements.now }
-    requires cut_2 { Cut requirements.now periods.now rungs.now t room known.inside known.outside }
+    requires cut_known { Cut requirements.now periods.now rungs.now t room known.inside known.outside }
     ensures chosen { result.chosen ≡ bit (ltb (rank_to (length requirements.now) requirements.now periods.now rungs.now t i) room) }
     ensures cut { Cut requirements.now periods.now rungs.now t room result.inside result.outside }
 {
@@ -173,8 +173,8 @@ fn choice_at(
 ) -> Choice
     requires choosing { Choosing requirements.now periods.now rungs.now t }
     requires i_in_bounds { i < length requirements.now }
-    requires contending_value { contending ≡ rungs_within 1 3 (length requirements.now) rungs.now }
-    requires cut_2 { Cut requirements.now periods.now rungs.now t room known.inside known.outside }
+    requires contenders { contending ≡ rungs_within 1 3 (length requirements.now) rungs.now }
+    requires cut_known { Cut requirements.now periods.now rungs.now t room known.inside known.outside }
     ensures chosen { result.chosen ≡ bit (chosen_by (rungs_within 4 4 (length requirements.now) rungs.now + room) requirements.now periods.now rungs.now t i) }
     ensures cut { Cut requirements.now periods.now rungs.now t room result.inside result.outside }
 {
@@ -219,9 +219,9 @@ fn choose(
     bytes: &mut [u8],
 )
     requires choosing { Choosing requirements.now periods.now rungs.now t }
-    requires contending_value { contending ≡ rungs_within 1 3 (length requirements.now) rungs.now }
-    requires counts_in_bounds { (length counts.old ≤ length requirements.now) × (length bytes.old ≡ length counts.old) }
-    requires by_index { (i : ℕ) → i < length counts.old → at counts.old i < 4294967295 }
+    requires contenders { contending ≡ rungs_within 1 3 (length requirements.now) rungs.now }
+    requires lengths { (length counts.old ≤ length requirements.now) × (length bytes.old ≡ length counts.old) }
+    requires countable { (i : ℕ) → i < length counts.old → at counts.old i < 4294967295 }
     ensures counts { counts.new ≡ each (length counts.old) (λ i. at counts.old i + bit (chosen_by (rungs_within 4 4 (length requirements.now) rungs.now + room) requirements.now periods.now rungs.now t i)) }
     ensures bytes { bytes.new ≡ each (length counts.old) (λ i. bit (chosen_by (rungs_within 4 4 (length requirements.now) rungs.now + room) requirements.now periods.now rungs.now t i)) }
 {
@@ -253,8 +253,8 @@ fn deal_judged(
     t: u32,
 ) -> Outcome
     requires choosing { Choosing requirements.now periods.now rungs.now t }
-    requires counts_in_bounds { (length counts.old ≤ length requirements.now) × (length bytes.old ≡ length counts.old) }
-    requires by_index { (i : ℕ) → i < length counts.old → at counts.old i < 4294967295 }
+    requires lengths { (length counts.old ≤ length requirements.now) × (length bytes.old ≡ length counts.old) }
+    requires countable { (i : ℕ) → i < length counts.old → at counts.old i < 4294967295 }
     ensures answer { result ≡ (dealt_rungs units requirements.now periods.now rungs.now counts.old bytes.old t).answer }
     ensures counts { counts.new ≡ (dealt_rungs units requirements.now periods.now rungs.now counts.old bytes.old t).counts }
     ensures bytes { bytes.new ≡ (dealt_rungs units requirements.now periods.now rungs.now counts.old bytes.old t).bytes }
@@ -324,8 +324,8 @@ fn deal_accepted(
     m: u32,
     t: u32,
 ) -> Outcome
-    requires m_value { admission requirements.now periods.now m ≡ Admission.Accepted accepted }
-    requires counts_len { (length counts.old ≡ length requirements.now) × (length bytes.old ≡ length requirements.now) }
+    requires admitted { admission requirements.now periods.now m ≡ Admission.Accepted accepted }
+    requires same_length { (length counts.old ≡ length requirements.now) × (length bytes.old ≡ length requirements.now) }
     ensures answer { result ≡ (slot_of requirements.now periods.now counts.old bytes.old m t).answer }
     ensures counts { counts.new ≡ (slot_of requirements.now periods.now counts.old bytes.old m t).counts }
     ensures bytes { bytes.new ≡ (slot_of requirements.now periods.now counts.old bytes.old m t).bytes }

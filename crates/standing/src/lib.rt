@@ -166,7 +166,7 @@ fn sum_of(counts: &[u32]) -> u64
 fn rungs_of(units: u32, requirements: &[u32], periods: &[u32], counts: &[u32], t: u32) -> [u8; 65]
     requires units_le_units_most { units ≤ units_most }
     requires sound { Sound requirements.now periods.now counts.now t }
-    requires by_index { (i : ℕ) → i < length requirements.now → fair t (laid_entry units requirements.now periods.now counts.now t i) ≡ true }
+    requires each_fair { (i : ℕ) → i < length requirements.now → fair t (laid_entry units requirements.now periods.now counts.now t i) ≡ true }
     ensures { result ≡ rungs_of units requirements.now periods.now counts.now t }
 {
     let n = counts.len();
@@ -183,7 +183,7 @@ fn rungs_of(units: u32, requirements: &[u32], periods: &[u32], counts: &[u32], t
 // The rungs of the tasks, and 0 past them.
 fn task_rungs(requirements: &[u32], periods: &[u32], counts: &[u32], t: u32) -> [u8; 65]
     requires sound { Sound requirements.now periods.now counts.now t }
-    requires by_index { (i : ℕ) → i < length counts.now → fair t (task_at requirements.now periods.now counts.now i) ≡ true }
+    requires each_fair { (i : ℕ) → i < length counts.now → fair t (task_at requirements.now periods.now counts.now i) ≡ true }
     ensures { result ≡ each 65 (λ i. cond (ltb i (length counts.now)) (rung t (task_at requirements.now periods.now counts.now i)) 0) }
 {
     let n = counts.len();
@@ -199,7 +199,7 @@ fn task_rungs(requirements: &[u32], periods: &[u32], counts: &[u32], t: u32) -> 
 // The rung of a task at t, by its lag and the next one.
 fn rung_of(e: u32, p: u32, k: u64, t: u32) -> u8
     requires small { Small e p k t }
-    requires k_value { fair t (counted e p k) ≡ true }
+    requires fair { fair t (counted e p k) ≡ true }
     ensures { result ≡ rung t (counted e p k) }
 {
     let next = lag(e, p, k, t + 1);

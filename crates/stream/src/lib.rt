@@ -95,7 +95,7 @@ fn next(
     piece: &[u8],
     out: &mut [u8],
 ) -> Fed
-    requires line_value { is_roomy fed.waiting requirements.old periods.old counts.old log.old line.old ≡ true }
+    requires roomy { is_roomy fed.waiting requirements.old periods.old counts.old log.old line.old ≡ true }
     requires at_in_bounds { (fed.at < length piece.now) × (fed.size ≤ length out.old) × (answer_most ≤ length out.old - fed.size) }
     ensures session { session_at result.waiting requirements.new periods.new counts.new ≡ (step (session_at fed.waiting requirements.old periods.old counts.old) (line_at fed.waiting line.old) (drop fed.at piece.now)).session }
     ensures line { line_at result.waiting line.new ≡ (step (session_at fed.waiting requirements.old periods.old counts.old) (line_at fed.waiting line.old) (drop fed.at piece.now)).line }

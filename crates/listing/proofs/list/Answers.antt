@@ -31,8 +31,8 @@ returns-then-bytes-n c =
 
 pub list_accepted-requires : goal.list_accepted-requires
 list_accepted-requires c = record {
-  m_value = sym c.admit.ensures ∙ c.in-Accepted.is;
-  counts_len = (c.if-counts-n.false, c.if-bytes-n.false);
+  admitted = sym c.admit.ensures ∙ c.in-Accepted.is;
+  same_length = (c.if-counts-n.false, c.if-bytes-n.false);
 }
 
 pub returns-in-Refused : goal.returns-in-Refused

@@ -19,7 +19,7 @@ turn c =
     }
 
 pub loop-a-init : goal.loop-a-init
-loop-a-init c = (omega arith, starts _ _ _ _ _ c.requires.bounds c.requires.bounds_2, ends _ _ _ c.requires.bounds)
+loop-a-init c = (omega arith, starts _ _ _ _ _ c.requires.first_bounds c.requires.second_bounds, ends _ _ _ c.requires.first_bounds)
 
 pub overflow_add-i-in-loop-a : goal.overflow_add-i-in-loop-a
 overflow_add-i-in-loop-a c = omega arith

@@ -32,8 +32,8 @@ follow-requires c =
     let takes1 = granted c.bounded.ensures (ap not c.if-not-bounded.false) in
     let takes2 = granted c.bounded-2.ensures (ap not c.if-not-bounded-2.false) in
     record {
-      bounds = takes_bounds _ _ takes1;
-      bounds_2 = takes_bounds _ _ takes2;
+      first_bounds = takes_bounds _ _ takes1;
+      second_bounds = takes_bounds _ _ takes2;
       t_le_time_most = omega arith;
     }
 

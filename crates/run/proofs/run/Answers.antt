@@ -86,8 +86,8 @@ pub run_accepted-requires : goal.run_accepted-requires
 run_accepted-requires c =
     let a = c.args in
     record {
-      m_value = sym c.admit.ensures ∙ c.in-Accepted.is;
-      counts_len = (c.if-counts-n.false, eqb-true (length a.log.now) (a.slots * length a.requirements.now) (sym c.is_log.ensures ∙ c.if-not-is_log.false), c.if-slots-gt-SLOTS_MOST.false);
+      admitted = sym c.admit.ensures ∙ c.in-Accepted.is;
+      lists_fit = (c.if-counts-n.false, eqb-true (length a.log.now) (a.slots * length a.requirements.now) (sym c.is_log.ensures ∙ c.if-not-is_log.false), c.if-slots-gt-SLOTS_MOST.false);
     }
 
 pub returns-in-Refused : goal.returns-in-Refused

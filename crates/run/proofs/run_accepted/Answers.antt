@@ -6,34 +6,34 @@ use Rattle.run.proofs.run_accepted.Goals as goal
 
 pub slice_bounds-es-end : goal.slice_bounds-es-end
 slice_bounds-es-end c =
-    let enough = fits c.args.requirements.now c.args.periods.now c.args.m c.args.accepted c.requires.m_value c.lay_out-laid.result
+    let enough = fits c.args.requirements.now c.args.periods.now c.args.m c.args.accepted c.requires.admitted c.lay_out-laid.result
     c.lay_out-laid.ensures in
     enough.0
 
 pub slice_bounds-run_laid-end : goal.slice_bounds-run_laid-end
 slice_bounds-run_laid-end c =
-    let enough = fits c.args.requirements.now c.args.periods.now c.args.m c.args.accepted c.requires.m_value c.lay_out-laid.result
+    let enough = fits c.args.requirements.now c.args.periods.now c.args.m c.args.accepted c.requires.admitted c.lay_out-laid.result
     c.lay_out-laid.ensures in
     sym (length-take-le _ _ enough.0)
 
 pub slice_bounds-ps-end : goal.slice_bounds-ps-end
 slice_bounds-ps-end c =
-    let enough = fits c.args.requirements.now c.args.periods.now c.args.m c.args.accepted c.requires.m_value c.lay_out-laid.result
+    let enough = fits c.args.requirements.now c.args.periods.now c.args.m c.args.accepted c.requires.admitted c.lay_out-laid.result
     c.lay_out-laid.ensures in
     enough.1
 
 pub slice_bounds-run_laid-end-2 : goal.slice_bounds-run_laid-end-2
 slice_bounds-run_laid-end-2 c =
-    let enough = fits c.args.requirements.now c.args.periods.now c.args.m c.args.accepted c.requires.m_value c.lay_out-laid.result
+    let enough = fits c.args.requirements.now c.args.periods.now c.args.m c.args.accepted c.requires.admitted c.lay_out-laid.result
     c.lay_out-laid.ensures in
     sym (length-take-le _ _ enough.1)
 
 pub run_laid-requires : goal.run_laid-requires
 run_laid-requires c =
-    let set = laid_set c.args.requirements.now c.args.periods.now c.args.m c.args.accepted c.requires.m_value c.lay_out-laid.result c.lay_out-laid.ensures in
+    let set = laid_set c.args.requirements.now c.args.periods.now c.args.m c.args.accepted c.requires.admitted c.lay_out-laid.result c.lay_out-laid.ensures in
     record {
-      periods_len = (set.same, set.pass);
-      es_value = (set.requirements, set.periods);
-      units_value = set.in_use;
-      counts_len = c.requires.counts_len;
+      set_passes = (set.same, set.pass);
+      laid_out = (set.requirements, set.periods);
+      in_use = set.in_use;
+      lists_fit = c.requires.lists_fit;
     }

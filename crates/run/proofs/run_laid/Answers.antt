@@ -7,8 +7,8 @@ use Rattle.run.proofs.run_laid.Goals as goal
 
 pub loop-done-init : goal.loop-done-init
 loop-done-init c =
-    going_start c.args.requirements.now c.args.periods.now c.args.m c.args.slots c.args.t c.args.counts.now c.args.log.now c.requires.counts_len.0
-    c.requires.counts_len.1
+    going_start c.args.requirements.now c.args.periods.now c.args.m c.args.slots c.args.t c.args.counts.now c.args.log.now c.requires.lists_fit.0
+    c.requires.lists_fit.1
 
 pub overflow_add-to : goal.overflow_add-to
 overflow_add-to c =
@@ -32,11 +32,11 @@ returns-in-Refused c =
     let a = c.args in
     let laid : Laid a.requirements.now a.periods.now a.m a.es.now a.ps.now a.units =
     record {
-      same = c.requires.periods_len.0;
-      pass = c.requires.periods_len.1;
-      requirements = c.requires.es_value.0;
-      periods = c.requires.es_value.1;
-      in_use = c.requires.units_value;
+      same = c.requires.set_passes.0;
+      pass = c.requires.set_passes.1;
+      requirements = c.requires.laid_out.0;
+      periods = c.requires.laid_out.1;
+      in_use = c.requires.in_use;
     } in
     let r = parts
     (turned_refused a.requirements.now a.periods.now a.m a.es.now a.ps.now a.units laid a.slots a.t a.counts.now a.log.now c.loop-done.counts
@@ -53,11 +53,11 @@ loop-done-preserved c =
     let a = c.args in
     let laid : Laid a.requirements.now a.periods.now a.m a.es.now a.ps.now a.units =
     record {
-      same = c.requires.periods_len.0;
-      pass = c.requires.periods_len.1;
-      requirements = c.requires.es_value.0;
-      periods = c.requires.es_value.1;
-      in_use = c.requires.units_value;
+      same = c.requires.set_passes.0;
+      pass = c.requires.set_passes.1;
+      requirements = c.requires.laid_out.0;
+      periods = c.requires.laid_out.1;
+      in_use = c.requires.in_use;
     } in
     turned_done a.requirements.now a.periods.now a.m a.es.now a.ps.now a.units laid a.slots a.t a.counts.now a.log.now c.loop-done.counts
     c.loop-done.log c.loop-done.done c.loop-done.from c.loop-done.invariant c.loop-done-test.true _ _ c.deal_part-outcome.ensures.counts c.deal_part-outcome.ensures.log (sym c.deal_part-outcome.ensures.answer ∙ c.in_default.is)

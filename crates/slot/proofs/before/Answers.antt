@@ -15,8 +15,8 @@ pub goes_first-requires : goal.goes_first-requires
 goes_first-requires c =
     let choosing = c.requires.choosing in
     record {
-      p_value = choosing.bounded c.args.j (omega arith);
-      p2_value = choosing.bounded c.args.i (omega arith);
+      first_bounded = choosing.bounded c.args.j (omega arith);
+      second_bounded = choosing.bounded c.args.i (omega arith);
       t_le_time_most = choosing.on_calendar;
     }
 

@@ -20,7 +20,7 @@ returns-then-rung-eq-URGENT c =
     let x = c.args in
     record {
       chosen = rw (chosen_urgent x.requirements.now x.periods.now x.rungs.now x.t x.i x.room c.if-rung-eq-URGENT.true);
-      cut = c.requires.cut_2;
+      cut = c.requires.cut_known;
     }
 
 pub returns-then-on_rung-eq0 : goal.returns-then-on_rung-eq0
@@ -30,7 +30,7 @@ returns-then-on_rung-eq0 c =
     let out = told_no (on_contending rungs x.i) c.on_rung.ensures c.if-on_rung-eq0.true in
     record {
       chosen = rw (chosen_neither x.requirements.now x.periods.now rungs x.t x.i x.room c.if-rung-eq-URGENT.false out);
-      cut = c.requires.cut_2;
+      cut = c.requires.cut_known;
     }
 
 pub returns-then-contending-room : goal.returns-then-contending-room
@@ -43,14 +43,14 @@ returns-then-contending-room c =
     let by_rank = chosen_contending es x.periods.now rungs x.t x.i x.room c.if-rung-eq-URGENT.false contends in
     record {
       chosen = rw (by_rank, lt-ltb (rank es x.periods.now rungs x.t x.i) x.room (omega arith));
-      cut = c.requires.cut_2;
+      cut = c.requires.cut_known;
     }
 
 pub choice_of_contender-requires : goal.choice_of_contender-requires
 choice_of_contender-requires c = record {
   choosing = c.requires.choosing;
   i_in_bounds = c.requires.i_in_bounds;
-  cut_2 = c.requires.cut_2;
+  cut_known = c.requires.cut_known;
 }
 
 pub returns : goal.returns

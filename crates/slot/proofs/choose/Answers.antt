@@ -17,8 +17,8 @@ pub choice_at-known-requires : goal.choice_at-known-requires
 choice_at-known-requires c = record {
   choosing = c.requires.choosing;
   i_in_bounds = omega arith;
-  contending_value = c.requires.contending_value;
-  cut_2 = c.loop-i.invariant.5;
+  contenders = c.requires.contenders;
+  cut_known = c.loop-i.invariant.5;
 }
 
 pub raise-requires : goal.raise-requires
@@ -28,7 +28,7 @@ raise-requires c =
     let rungs = x.rungs.now in
     let i = c.loop-i.i in
     let units = rungs_within 4 4 (length es) rungs + x.room in
-    let low = c.requires.by_index i (omega arith) in
+    let low = c.requires.countable i (omega arith) in
     let raise = raised es x.periods.now rungs x.t x.room x.counts.now in
     let old = next_is i raise x.counts.now c.loop-i.counts c.loop-i.invariant.3 in
     record {

@@ -35,8 +35,8 @@ deal_judged-requires c =
     c.in_default.is in
     record {
       choosing = r.0;
-      counts_in_bounds = r.1.0;
-      by_index = r.1.1;
+      lengths = r.1.0;
+      countable = r.1.1;
     }
 
 pub returns : goal.returns

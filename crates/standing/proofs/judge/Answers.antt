@@ -121,7 +121,7 @@ rungs_of-requires c =
     record {
       units_le_units_most = omega arith;
       sound = sound_lists m es ps ks t laid (omega (arith, ltb-false)) (omega arith) (omega arith);
-      by_index = all_fair m es ps ks t (laid_lengths es ps ks laid).2 (omega arith);
+      each_fair = all_fair m es ps ks t (laid_lengths es ps ks laid).2 (omega arith);
     }
 
 pub returns : goal.returns

@@ -19,7 +19,7 @@ returns-then-next-le0 c =
     let x = c.args in
     let small = c.requires.small in
     let next = word_is (lag_fits x.e x.p x.k _ (next_due_fits small) (done_fits small)) (rw add-one at c.lag-next.ensures) in
-    sym (rung_tnegru x.e x.p x.k x.t small c.requires.k_value (rw next at c.if-next-le0.true))
+    sym (rung_tnegru x.e x.p x.k x.t small c.requires.fair (rw next at c.if-next-le0.true))
 
 pub returns-then-next-p : goal.returns-then-next-p
 returns-then-next-p c =
@@ -27,7 +27,7 @@ returns-then-next-p c =
     let small = c.requires.small in
     let next = word_is (lag_fits x.e x.p x.k _ (next_due_fits small) (done_fits small)) (rw add-one at c.lag-next.ensures) in
     sym
-    (rung_urgent x.e x.p x.k x.t small c.requires.k_value (rw next at c.if-next-le0.false)
+    (rung_urgent x.e x.p x.k x.t small c.requires.fair (rw next at c.if-next-le0.false)
     (rw (period_is x.p small.limit, next) at c.if-next-p.true))
 
 pub lag-lag-requires : goal.lag-lag-requires
@@ -43,7 +43,7 @@ contends c =
     let x = c.args in
     let small = c.requires.small in
     let next = word_is (lag_fits x.e x.p x.k _ (next_due_fits small) (done_fits small)) (rw add-one at c.lag-next.ensures) in
-    rung_between x.e x.p x.k x.t small c.requires.k_value (rw next at c.if-next-le0.false)
+    rung_between x.e x.p x.k x.t small c.requires.fair (rw next at c.if-next-le0.false)
     (rw (period_is x.p small.limit, next) at c.if-next-p.false)
 
 pub returns-then-lag-lt0 : goal.returns-then-lag-lt0

@@ -14,7 +14,7 @@ task_rungs-rungs-requires c =
     let ks = c.args.counts.now in
     record {
       sound = c.requires.sound;
-      by_index = λ i h. ap (λ x. fair c.args.t x) (sym (laid_task c.args.units es ps ks c.args.t i h)) ∙ c.requires.by_index i (omega arith);
+      each_fair = λ i h. ap (λ x. fair c.args.t x) (sym (laid_task c.args.units es ps ks c.args.t i h)) ∙ c.requires.each_fair i (omega arith);
     }
 
 pub returns-then-requirements-n : goal.returns-then-requirements-n
@@ -34,7 +34,7 @@ overflow_sub-given c =
     let ps = c.args.periods.now in
     let ks = c.args.counts.now in
     let others = c.sum_of-others in
-    spare_within c.args.units es ps ks c.args.t others.result others.ensures (c.requires.by_index (length ks) (omega arith))
+    spare_within c.args.units es ps ks c.args.t others.result others.ensures (c.requires.each_fair (length ks) (omega arith))
 
 pub rung_of-requires : goal.rung_of-requires
 rung_of-requires c =
@@ -44,12 +44,12 @@ rung_of-requires c =
     let m = c.args.units in
     let t = c.args.t in
     let others = c.sum_of-others in
-    let within = c.requires.by_index (length ks) (omega arith) in
+    let within = c.requires.each_fair (length ks) (omega arith) in
     let spare = laid_spare m es ps ks t others.result others.ensures (spare_within m es ps ks t others.result others.ensures within) in
     let narrow = given_narrow m t c.requires.units_le_units_most c.requires.sound.early in
     record {
       small = small_at es ps ks t c.requires.sound (length ks) _ (omega arith) (omega arith);
-      k_value = ap (λ x. fair t x) (sym spare) ∙ within;
+      fair = ap (λ x. fair t x) (sym spare) ∙ within;
     }
 
 pub returns : goal.returns
@@ -60,7 +60,7 @@ returns c =
     let m = c.args.units in
     let t = c.args.t in
     let others = c.sum_of-others in
-    let within = c.requires.by_index (length ks) (omega arith) in
+    let within = c.requires.each_fair (length ks) (omega arith) in
     let spare = laid_spare m es ps ks t others.result others.ensures (spare_within m es ps ks t others.result others.ensures within) in
     ap (λ xs. set xs (length ks) c.rung_of.result) c.task_rungs-rungs.ensures
     ∙ rungs_with_spare m es ps ks t c.rung_of.result (omega arith) (c.rung_of.ensures ∙ ap (λ x. rung t x) (sym spare))

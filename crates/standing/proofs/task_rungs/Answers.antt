@@ -26,7 +26,7 @@ rung_of-requires c =
     let narrow = c.type_inv.counts l.i in
     record {
       small = small_at c.args.requirements.now c.args.periods.now c.args.counts.now c.args.t c.requires.sound l.i _ (omega arith) (omega arith);
-      k_value = c.requires.by_index l.i (omega arith);
+      fair = c.requires.each_fair l.i (omega arith);
     }
 
 pub loop-i-preserved : goal.loop-i-preserved

@@ -1,0 +1,15 @@
+-- `clear_counts` meets its contract. The loop's invariant: the first i places are 0, and the rest is as it was. The measure is what is left. Assumes nothing.
+use mathlib.Core.Path.{◌≡◌, ◌∙◌}
+use Prim.Native.Nat.{◌-◌, ◌≤◌}
+use native.Mathlib.Numerals.{add-one}
+use native.Mathlib.Omega.{arith}
+use borrow.Author.Rules.{rules}
+use lib.ListN.{length, length-set}
+use Rattle.rule.proofs.Written.{written, written_none, written_set}
+use Rattle.frames.proofs.clear_counts.Given as goal
+
+abbrev pub invariant-loop-i : goal.invariant-loop-i
+invariant-loop-i l = (l.i ≤ l.size) × (length l.counts ≡ length l.initial.counts) × (l.counts ≡ written l.i (λ j. 0) l.initial.counts)
+
+abbrev pub decreases-loop-i : goal.decreases-loop-i
+decreases-loop-i l = l.size - l.i
