@@ -1,20 +1,20 @@
 -- However the input is cut into pieces, what is written is the transcript, and no more than 519 bytes of a line are kept. Assumes nothing.
 use mathlib.Core.Path.{◌≡◌, refl, sym, ap, ◌∙◌}
 use mathlib.Core.Logic.{◌⊎◌, inl, inr}
-use mathlib.Core.Bool.{Bool, true, false, cond, ◌&&◌}
+use mathlib.Core.Bool.{Bool, true, false, cond}
 use mathlib.Core.List.{List, [], ◌∷◌, ◌++◌, append_assoc, append-nil}
-use Prim.Native.Nat.{ℕ, suc, ◌+◌, ◌≤◌, ◌<◌}
+use Prim.Native.Nat.{ℕ, suc, ◌≤◌, ◌<◌}
 use native.Mathlib.Omega.{arith}
 use borrow.Author.Tests.{leb-true, leb-false, le-leb, lt-leb}
 use lib.Dec.{leb, eqb}
 use lib.ListN.{length, length-append}
 use Rattle.writing.specs.AnswerLines.{line_feed}
-use Rattle.frames.specs.Lines.{lines_after, lines_of}
-use Rattle.reading.specs.Kinds.{Frame, malformed, digits_most, well_formed, read}
+use Rattle.frames.specs.Lines.{lines_after}
+use Rattle.reading.specs.Kinds.{malformed, digits_most, well_formed, read}
 use Rattle.frames.specs.Session.{Session, no_set}
-use Rattle.frames.specs.Replies.{Reply, reply}
+use Rattle.frames.specs.Replies.{reply}
 use Rattle.frames.specs.Transcript.{answer_to, answers, transcript}
-use Rattle.frames.specs.Stream.{Reader, Fed, with_byte, feed, finish}
+use Rattle.frames.specs.Stream.{Fed, with_byte, feed, finish}
 
 -- What a byte does before the rest of a piece: it ends the line, or it is a byte more of it.
 abbrev turn : Bool → Session → List ℕ → ℕ → List ℕ → Fed

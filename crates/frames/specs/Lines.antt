@@ -1,6 +1,6 @@
 -- Document 01, "Frames": "one frame a line, ended by a line feed (the last may lack it)". Nothing is trimmed; a final line feed starts
 -- no new line.
-use Rattle.std.specs.Prelude.{Bool, cond, List, [], ◌∷◌, ◌++◌, ℕ, eqb}
+use Rattle.std.specs.Prelude.{cond, List, [], ◌∷◌, ◌++◌, ℕ, eqb}
 use Rattle.writing.specs.AnswerLines.{line_feed}
 
 -- The lines of an input of which this much of a line is at hand already. An end without a line feed ends the line at hand, if there

@@ -1,5 +1,5 @@
 -- What the program keeps between frames: the set in force with its units, its time and its counts, or that there is none.
-use Rattle.std.specs.Prelude.{List, [], ℕ, length}
+use Rattle.std.specs.Prelude.{List, ℕ, length}
 use Rattle.rule.specs.Places.{each}
 
 pub data Session : Type 0 where

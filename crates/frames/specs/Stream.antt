@@ -3,8 +3,7 @@
 use Rattle.std.specs.Prelude.{cond, List, [], ◌∷◌, ◌++◌, ℕ, leb, eqb, length}
 use Rattle.writing.specs.AnswerLines.{line_feed}
 use Rattle.reading.specs.Kinds.{digits_most}
-use Rattle.frames.specs.Session.{Session, no_set}
-use Rattle.frames.specs.Replies.{Reply}
+use Rattle.frames.specs.Session.{Session}
 use Rattle.frames.specs.Transcript.{answer_to}
 
 pub record Reader : Type 0 where

@@ -30,12 +30,12 @@ pub returns-in-Accepted : goal.returns-in-Accepted
 returns-in-Accepted c =
     let q = sym c.admit.ensures ∙ c.in-Accepted.is in
     let text = set_text c.args.line.now c.args.m c.args.n c.requires.asked.0 c.column-es.result c.column-ps.result c.column-es.ensures c.column-ps.ensures (session_of c.args.kept c.args.requirements.now c.args.periods.now c.args.counts.now) _ q in
-    let one = copied c.args.line.now 3 c.args.n c.column-es.result c.args.requirements.now c.copy.new.1.0 c.column-es.ensures c.requires.asked.1 c.requires.room.0 c.copy.ensures in
-    let two = copied c.args.line.now 5 c.args.n c.column-ps.result c.args.periods.now c.copy-in-Accepted.new.1.0 c.column-ps.ensures c.requires.asked.1 c.requires.room.1 c.copy-in-Accepted.ensures in
+    let one = copied c.args.line.now 3 c.args.n c.column-es.result c.args.requirements.now c.copy.new.into c.column-es.ensures c.requires.asked.1 c.requires.room.0 c.copy.ensures in
+    let two = copied c.args.line.now 5 c.args.n c.column-ps.result c.args.periods.now c.copy-in-Accepted.new.into c.column-ps.ensures c.requires.asked.1 c.requires.room.1 c.copy-in-Accepted.ensures in
     let room : c.args.n ≤ length c.args.counts.now = omega (arith, c.requires.asked.1, c.requires.room.2) in
     let three = ap (take c.args.n) c.clear_counts.ensures ∙ take_written c.args.n (λ i. 0) c.args.counts.now room in
     record {
-      session = set_session c.args.line.now c.args.m c.args.n c.requires.asked.0 c.column-es.result c.column-ps.result c.column-es.ensures c.column-ps.ensures (session_of c.args.kept c.args.requirements.now c.args.periods.now c.args.counts.now) _ q c.copy.new.1.0 c.copy-in-Accepted.new.1.0 c.clear_counts.new.0 one two three;
+      session = set_session c.args.line.now c.args.m c.args.n c.requires.asked.0 c.column-es.result c.column-ps.result c.column-es.ensures c.column-ps.ensures (session_of c.args.kept c.args.requirements.now c.args.periods.now c.args.counts.now) _ q c.copy.new.into c.copy-in-Accepted.new.into c.clear_counts.new.counts one two three;
       text = c.put_accepted.ensures.out ∙ ap (sets c.args.out.now 0) text;
       size = c.put_accepted.ensures.place ∙ ap length text;
       tasks = c.requires.asked.1;

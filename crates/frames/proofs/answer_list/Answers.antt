@@ -1,6 +1,5 @@
 -- `answer_list` meets its contract: without a set it is refusal 11. Assumes nothing.
 use mathlib.Core.Path.{ap, ◌∙◌}
-use borrow.Author.Rules.{rules}
 use lib.ListN.{length}
 use lib.Seq.{sets}
 use Rattle.frames.proofs.Keeping.{list_none}

@@ -1,10 +1,9 @@
 use mathlib.Core.Path.{◌≡◌, ◌∙◌}
-use Prim.Native.Nat.{◌-◌, ◌≤◌}
 use native.Mathlib.Numerals.{add-one}
 use native.Mathlib.Omega.{arith}
 use borrow.Author.Rules.{rules}
-use lib.ListN.{length, length-set}
-use Rattle.rule.proofs.Written.{written, written_none, written_set}
+use lib.ListN.{length-set}
+use Rattle.rule.proofs.Written.{written_none, written_set}
 use Rattle.frames.proofs.clear.Goals as goal
 
 pub loop-i-init : goal.loop-i-init

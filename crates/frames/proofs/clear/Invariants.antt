@@ -1,11 +1,8 @@
 -- `clear` meets its contract. The loop's invariant: the first i places are 0, and the rest is as it was. The measure is what is left. Assumes nothing.
-use mathlib.Core.Path.{◌≡◌, ◌∙◌}
+use mathlib.Core.Path.{◌≡◌}
 use Prim.Native.Nat.{◌-◌, ◌≤◌}
-use native.Mathlib.Numerals.{add-one}
-use native.Mathlib.Omega.{arith}
-use borrow.Author.Rules.{rules}
-use lib.ListN.{length, length-set}
-use Rattle.rule.proofs.Written.{written, written_none, written_set}
+use lib.ListN.{length}
+use Rattle.rule.proofs.Written.{written}
 use Rattle.frames.proofs.clear.Given as goal
 
 abbrev pub invariant-loop-i : goal.invariant-loop-i

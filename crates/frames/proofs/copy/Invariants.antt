@@ -1,12 +1,9 @@
 -- `copy` meets its contract. The loop's invariant: the first i places are copied, and the rest is as it was. The measure is what is left. Assumes nothing.
-use mathlib.Core.Path.{◌≡◌, ◌∙◌}
+use mathlib.Core.Path.{◌≡◌}
 use Prim.Native.Nat.{◌-◌, ◌≤◌}
-use native.Mathlib.Numerals.{add-one}
-use native.Mathlib.Omega.{arith}
-use borrow.Author.Rules.{rules}
-use lib.ListN.{length, length-set}
+use lib.ListN.{length}
 use Rattle.rule.specs.Places.{at}
-use Rattle.rule.proofs.Written.{written, written_none, written_set}
+use Rattle.rule.proofs.Written.{written}
 use Rattle.frames.proofs.copy.Given as goal
 
 abbrev pub invariant-loop-i : goal.invariant-loop-i

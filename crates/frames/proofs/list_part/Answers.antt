@@ -21,5 +21,5 @@ returns c =
     let whole = length-take-le c.args.kept.n c.args.log.now (search rules) in
     record {
       answer = c.list.ensures.answer;
-      bytes = take_at c.list.new.1.1.1.0 _ c.args.kept.n (search rules) ∙ c.list.ensures.bytes;
+      bytes = take_at c.list.new.bytes _ c.args.kept.n (search rules) ∙ c.list.ensures.bytes;
     }

@@ -14,7 +14,7 @@ slice_bounds-put_listing-end-in-Done c = sym (length-take-le _ _ (search rules))
 pub returns-in-Done : goal.returns-in-Done
 returns-in-Done c =
     let room : c.args.kept.n ≤ length c.args.log.now = omega (arith, c.requires.some_tasks.1, c.requires.lists_hold_n.3) in
-    let text = list_done c.args.kept c.args.requirements.now c.args.periods.now c.args.counts.now c.args.log.now c.requires.some_tasks.0 c.requires.lists_hold_n.0 room c.clear.new.0 c.clear.ensures c.list-part.result c.list-part.ensures.0 c.enum_told.given.1 c.requires.some_tasks.1 _ c.list-part.ensures.1 in
+    let text = list_done c.args.kept c.args.requirements.now c.args.periods.now c.args.counts.now c.args.log.now c.requires.some_tasks.0 c.requires.lists_hold_n.0 room c.clear.new.log c.clear.ensures c.list_part.result c.list_part.ensures.answer c.in-Done.is c.requires.some_tasks.1 _ c.list_part.ensures.bytes in
     record {
       text = c.put_listing.ensures.out ∙ ap (sets c.args.out.now 0) text;
       size = c.put_listing.ensures.place ∙ ap length text;
@@ -23,7 +23,7 @@ returns-in-Done c =
 pub returns-in-Refused : goal.returns-in-Refused
 returns-in-Refused c =
     let room : c.args.kept.n ≤ length c.args.log.now = omega (arith, c.requires.some_tasks.1, c.requires.lists_hold_n.3) in
-    let text = list_refused c.args.kept c.args.requirements.now c.args.periods.now c.args.counts.now c.args.log.now c.requires.some_tasks.0 c.requires.lists_hold_n.0 room c.clear.new.0 c.clear.ensures c.list_part.result c.list_part.ensures.answer _ c.in-Refused.is in
+    let text = list_refused c.args.kept c.args.requirements.now c.args.periods.now c.args.counts.now c.args.log.now c.requires.some_tasks.0 c.requires.lists_hold_n.0 room c.clear.new.log c.clear.ensures c.list_part.result c.list_part.ensures.answer _ c.in-Refused.is in
     record {
       text = c.put_refused.ensures.out ∙ ap (sets c.args.out.now 0) text;
       size = c.put_refused.ensures.place ∙ ap length text;

@@ -6,9 +6,9 @@ use Rattle.frames.proofs.log_size.Goals as goal
 
 pub returns-then-slots-gt-SLOTS_MOST : goal.returns-then-slots-gt-SLOTS_MOST
 returns-then-slots-gt-SLOTS_MOST c = record {
-      size = rw (lt-ltb _ _ c.if-slots-gt-SLOTS_MOST.true);
-      fits = omega arith;
-    }
+  size = rw (lt-ltb _ _ c.if-slots-gt-SLOTS_MOST.true);
+  fits = omega arith;
+}
 
 pub overflow_mul-result : goal.overflow_mul-result
 overflow_mul-result c =

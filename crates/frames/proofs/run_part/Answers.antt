@@ -22,6 +22,6 @@ returns c =
     let log = length-take-le c.args.size c.args.log.now (search rules) in
     record {
       answer = c.run.ensures.answer;
-      counts = take_at c.run.new.1.1.1.0 _ c.args.kept.n (search rules) ∙ c.run.ensures.counts;
-      log = take_at c.run.new.1.1.1.1.0 _ c.args.size (search rules) ∙ c.run.ensures.log;
+      counts = take_at c.run.new.counts _ c.args.kept.n (search rules) ∙ c.run.ensures.counts;
+      log = take_at c.run.new.log _ c.args.size (search rules) ∙ c.run.ensures.log;
     }

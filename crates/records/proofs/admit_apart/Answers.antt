@@ -3,7 +3,6 @@
 use mathlib.Core.Path.{sym, ◌∙◌}
 use native.Mathlib.Omega.{arith}
 use lib.Seq.{length-take-le}
-use borrow.Author.Rules.{rules}
 use Rattle.records.proofs.Laws.{admission_apart, admission_too_many}
 use Rattle.records.proofs.admit_apart.Goals as goal
 

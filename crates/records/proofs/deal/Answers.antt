@@ -5,7 +5,6 @@ use Prim.Native.Nat.{◌≤◌}
 use native.Mathlib.Omega.{arith}
 use lib.ListN.{length}
 use lib.Seq.{length-take-le}
-use borrow.Author.Rules.{rules}
 use Rattle.slot.proofs.Parts.{parts}
 use Rattle.rule.specs.declared.Refusal.TheVariants.{Lengths, Tasks}
 use Rattle.records.proofs.Laws.{slot_apart, slot_other_length, slot_too_many, refused_back, all_back}
@@ -34,6 +33,6 @@ pub returns : goal.returns
 returns c = λ ts q.
     let a = c.args in
     let few : a.apart.n ≤ 64 = omega arith in
-    let as_long : length c.slot-outcome.new.1.1.0 ≡ a.apart.n = omega (arith, length-take-le a.apart.n a.apart.counts (omega arith)) in
+    let as_long : length c.slot-outcome.new.counts ≡ a.apart.n = omega (arith, length-take-le a.apart.n a.apart.counts (omega arith)) in
     let same = parts (slot_apart a.apart ts q a.bytes.now a.m a.t few) in
     all_back a.apart ts q few _ _ _ _ _ as_long (c.slot-outcome.ensures.answer ∙ same.0) (c.slot-outcome.ensures.counts ∙ same.1.0) (c.slot-outcome.ensures.bytes ∙ same.1.1)
