@@ -1,23 +1,20 @@
 -- Lines of a piece in a row are the piece byte by byte, as far as the answers have room. Assumes nothing.
 use mathlib.Core.Path.{◌≡◌, refl, sym, ap, ◌∙◌}
-use mathlib.Core.Bool.{Bool, true, false, cond, ◌&&◌}
+use mathlib.Core.Bool.{Bool, true, false, ◌&&◌}
 use mathlib.Core.List.{List, [], ◌∷◌, ◌++◌}
-use Prim.Native.Nat.{ℕ, zero, suc, ◌+◌, ◌-◌, ◌≤◌, ◌<◌}
+use Prim.Native.Nat.{ℕ, ◌+◌, ◌-◌, ◌≤◌, ◌<◌}
 use native.Mathlib.Nat.{zero-add}
 use native.Mathlib.Omega.{arith}
-use borrow.Author.Tests.{ltb-true, ltb-false, leb-true, leb-false, le-leb, lt-leb}
-use lib.Dec.{ltb, leb, eqb}
-use lib.ListN.{length, set, take, drop, drop_of_length-le, length-append}
+use borrow.Author.Tests.{ltb-false, leb-false, le-leb}
+use lib.Dec.{ltb, leb}
+use lib.ListN.{length, take, drop, drop_of_length-le, length-append}
 use lib.Seq.{sets, take-add, drop-drop}
 use Rattle.digits.proofs.Stores.{sets_append}
-use Rattle.frames.specs.declared.Kept.{Kept}
 use Rattle.frames.specs.Session.{Session}
-use Rattle.frames.specs.Replies.{Reply}
-use Rattle.frames.specs.Transcript.{answer_to}
-use Rattle.frames.specs.Stream.{Reader, Fed, feed}
-use Rattle.frames.specs.Keeping.{has_room, answer_most, answered}
+use Rattle.frames.specs.Stream.{feed}
+use Rattle.frames.specs.Keeping.{answer_most}
 use Rattle.frames.proofs.Stream.{fed_cut}
-use Rattle.stream.specs.Taking.{scan, Step, step, step_by}
+use Rattle.stream.specs.Taking.{scan, step}
 use Rattle.stream.specs.Pieces.{reach, taken}
 use Rattle.stream.proofs.Taking.{as_fed, step_feed, step_reach, reach_stops}
 

@@ -10,7 +10,7 @@ use lib.Seq.{sets, take-append-le}
 use Rattle.digits.proofs.Stores.{take_sets}
 use Rattle.frames.specs.Session.{Session, no_set}
 use Rattle.frames.specs.Transcript.{transcript}
-use Rattle.frames.specs.Stream.{Reader, Fed, feed, finish}
+use Rattle.frames.specs.Stream.{feed, finish}
 use Rattle.frames.proofs.Stream.{fed_cut, in_all, fed_transcript}
 use Rattle.stream.specs.Pieces.{ended, ended_by}
 use Rattle.stream.specs.Served.{Served, ends, takes}

@@ -1,19 +1,17 @@
 -- One line of a piece as the code deals with it: the line goes on, or it is answered and its answer stored after the others. Assumes nothing.
 use mathlib.Core.Path.{◌≡◌, refl, sym, ap, ◌∙◌}
-use mathlib.Core.Bool.{Bool, true, false, cond}
+use mathlib.Core.Bool.{Bool, true, false}
 use mathlib.Core.List.{List, [], ◌∷◌, ◌++◌, append-nil}
-use Prim.Native.Nat.{ℕ, zero, suc, ◌+◌, ◌-◌, ◌≤◌, ◌<◌}
-use native.Mathlib.Nat.{zero-add}
+use Prim.Native.Nat.{ℕ, zero, suc, ◌-◌, ◌≤◌, ◌<◌}
 use native.Mathlib.Omega.{arith}
 use lib.ListN.{length, set, take, drop, length-drop, drop_of_length-le}
-use lib.Seq.{sets, take_all, drop-drop}
+use lib.Seq.{sets, take_all}
 use Rattle.frames.specs.declared.Kept.{Kept}
 use Rattle.frames.specs.Session.{Session}
-use Rattle.frames.specs.Replies.{Reply}
 use Rattle.frames.specs.Transcript.{answer_to}
 use Rattle.frames.specs.Keeping.{session_of, has_room, answer_most, answered}
 use Rattle.frames.proofs.Sizes.{answer_small}
-use Rattle.stream.specs.Taking.{Scan, scan, Step, step_by, step}
+use Rattle.stream.specs.Taking.{scan, step_by, step}
 use Rattle.stream.specs.Pieces.{ended, ended_by}
 use Rattle.stream.proofs.Rooms.{few_tasks}
 

@@ -1,20 +1,18 @@
 -- A piece a line at a time is the piece byte by byte. Assumes nothing.
 use mathlib.Core.Path.{◌≡◌, refl, sym, ap, ◌∙◌}
 use mathlib.Core.Bool.{Bool, true, false, cond}
-use mathlib.Core.List.{List, [], ◌∷◌, ◌++◌, append-nil}
-use Prim.Native.Nat.{ℕ, zero, suc, ◌+◌, ◌-◌, ◌≤◌, ◌<◌}
-use native.Mathlib.Nat.{zero-add, suc-add}
+use mathlib.Core.List.{List, [], ◌∷◌, append-nil}
+use Prim.Native.Nat.{ℕ, suc, ◌+◌, ◌-◌, ◌≤◌, ◌<◌}
 use native.Mathlib.Omega.{arith}
 use borrow.Author.Tests.{le-leb, lt-leb, eq-eqb, ne_eqb}
-use lib.Dec.{leb, eqb}
+use lib.Dec.{eqb}
 use lib.ListN.{length, get_or, set, take, drop, drop_of_length-le}
 use lib.Seq.{drop-cons, take-suc-set, length-take-le}
 use Rattle.reading.specs.Kinds.{digits_most}
 use Rattle.writing.specs.AnswerLines.{line_feed}
 use Rattle.frames.specs.Session.{Session}
-use Rattle.frames.specs.Replies.{Reply}
 use Rattle.frames.specs.Transcript.{answer_to}
-use Rattle.frames.specs.Stream.{Reader, Fed, with_byte, feed}
+use Rattle.frames.specs.Stream.{Fed, with_byte, feed}
 use Rattle.frames.specs.Keeping.{answer_most}
 use Rattle.stream.specs.Taking.{Scan, scan, Step, step_by, step}
 use Rattle.stream.specs.Pieces.{line_most, reach}

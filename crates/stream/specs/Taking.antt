@@ -2,7 +2,6 @@
 use Rattle.std.specs.Prelude.{Bool, true, false, cond, List, [], ◌∷◌, ℕ, suc, eqb}
 use Rattle.writing.specs.AnswerLines.{line_feed}
 use Rattle.frames.specs.Session.{Session}
-use Rattle.frames.specs.Replies.{Reply}
 use Rattle.frames.specs.Transcript.{answer_to}
 use Rattle.frames.specs.Stream.{with_byte}
 
