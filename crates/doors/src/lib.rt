@@ -208,8 +208,7 @@ pub extern "C" fn door_list(
     outcome_code(listing::list(requirements, periods, counts, bytes, m, t))
 }
 
-// Admission of a set lent as a list of records. The borrow checker does not cover a list of structs, so that this function does no
-// more than hand over.
+// Admission of a set lent as a list of records; it does no more than hand over.
 #[unsafe(no_mangle)]
 pub extern "C" fn door_admit_records(tasks: &[Task], m: u32, answer: &mut [u32]) -> u64
     ensures code { result ≡ admission_code (admission (requirements_of tasks.now) (periods_of tasks.now) m) }

@@ -1,4 +1,4 @@
--- An accepted set laid out: its field is the set's own, entry by entry, and of the laid_out checks only those of the time and of the
+-- An accepted set laid out: its field is the set's own, entry by entry, and of the laid-out checks only those of the time and of the
 -- lags are left, which are the set's. Assumes nothing.
 use mathlib.Core.Path.{◌≡◌, refl, sym, ap, ◌∙◌, subst}
 use mathlib.Core.Bool.{Bool, true, false, cond, not, ◌||◌}
@@ -114,7 +114,7 @@ module _ (es ps : List ℕ) where
           (λ i l. ap not (bounded_place i (subst (λ n. i < n) length_laid l)))
           in le-ltb (wild_place (laid_requirements es ps) (laid_periods es ps)) (length (laid_requirements es ps)) (omega arith)
 
-      -- The first of the laid_out checks that holds is the set's: of the time, then of the lags.
+      -- The first of the laid-out checks that holds is the set's: of the time, then of the lags.
       pub laid_first : first (laid_checks (units_in_use es ps) (laid_requirements es ps) (laid_periods es ps) ks t) ≡ first (times t ∷ lags es ps ks t ∷ [])
       unfolding laid_checks
       laid_first =
