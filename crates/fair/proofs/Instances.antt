@@ -1,9 +1,11 @@
 -- The theorems at sets with numbers in them, so that nobody need ask whether their hypotheses can be met: the paper's set, P4's set
 -- with no spare, a set of one task, and P5's set that no table serves. Assumes nothing.
 use mathlib.Core.Path.{◌≡◌, refl}
-use mathlib.Core.Bool.{Bool}
+use mathlib.Core.Bool.{Bool, false}
 use mathlib.Core.List.{List, [], ◌∷◌}
-use Prim.Native.Nat.{ℕ, ◌-◌, ◌*◌, ◌≤◌, zero-le}
+use Prim.Native.Nat.{ℕ, zero, suc, ◌+◌, ◌-◌, ◌*◌, ◌≤◌, ◌<◌, zero-le}
+use native.Mathlib.Omega.{arith}
+use lib.Dec.{eqb}
 use lib.ListN.{length}
 use Rattle.numbers.specs.Divide.{euclid, gcd, lowest_terms}
 use Rattle.numbers.specs.Multiple.{lcm, lcm_all}
@@ -15,18 +17,20 @@ use Rattle.rule.specs.declared.Admission.TheVariants.{Accepted as accepted, Refu
 use Rattle.rule.specs.declared.Refusal.TheVariants.{Load}
 use Rattle.rule.specs.declared.Outcome.TheVariants.{Done}
 use Rattle.rule.specs.Limits.{bounded_by, time_most}
-use Rattle.rule.specs.Places.{sum, lowest}
+use Rattle.rule.specs.Places.{at, sum, count, lowest}
 use Rattle.rule.specs.Sets.{multiple, load, units_in_use, room, spare, field}
 use Rattle.rule.specs.Slot.{chosen}
 use Rattle.rule.specs.Refusals.{first, differ, invalid_place, set_checks, admission_checks, run_checks}
 use Rattle.rule.specs.Outcomes.{admission_by, admission, acceptance, slot, run}
 use Rattle.rule.proofs.Choice.{IsChoice}
 use Rattle.rule.proofs.Refusals.{none, and}
-use Rattle.fair.specs.FromStart.{counts_at, stepped}
+use Rattle.fair.specs.FromStart.{counts_at, runs_from_start, stepped}
 use Rattle.fair.specs.Table.{Table}
+use Rattle.fair.specs.FiniteTable.{FiniteTable, Has, up_to, slots}
 use Rattle.fair.specs.Slots.{IsSlots}
 use Rattle.fair.proofs.NeverStuck.{FairAt, never_stuck, never_refused}
 use Rattle.fair.proofs.RefusalSix.{PassesOneToFive, refusal_six_exact}
+use Rattle.fair.proofs.FiniteTables.{refusal_six_finite, accepted_served_finite}
 use Rattle.fair.proofs.OneChoice.{outcome_is_choice}
 use Rattle.fair.proofs.RunIsSlots.{run_is_slots}
 
@@ -68,6 +72,41 @@ five_passed = and refl (and refl (and refl (and refl (and refl none))))
 
 pub no_table : (runs : ℕ → ℕ → Bool) → Table (2 ∷ 2 ∷ []) (3 ∷ 3 ∷ []) 1 runs → ⊥
 no_table = (refusal_six_exact (2 ∷ 2 ∷ []) (3 ∷ 3 ∷ []) 1 five_passed).0 admissions.3
+
+-- Nor does one of any number of slots from L = 3 up. Of 2 slots there is one, since no period ends within it.
+pub no_finite_table : (s : ℕ) → 3 ≤ s → (runs : ℕ → ℕ → Bool) → FiniteTable s (2 ∷ 2 ∷ []) (3 ∷ 3 ∷ []) 1 runs → ⊥
+unfolding multiple lcm_all lcm gcd euclid
+no_finite_table s whole = (refusal_six_finite (2 ∷ 2 ∷ []) (3 ∷ 3 ∷ []) 1 five_passed s whole).0 admissions.3
+
+pub short_table : FiniteTable 2 (2 ∷ 2 ∷ []) (3 ∷ 3 ∷ []) 1 (λ i u. false)
+unfolding sum
+short_table = record { few = λ u h. zero-le; served = none_ends }
+  where
+    none_ends : (i j : ℕ) → i < 2 → Has (slots 2) (at (3 ∷ 3 ∷ []) i * suc j) → count (at (3 ∷ 3 ∷ []) i) (λ v. false) ≡ at (2 ∷ 2 ∷ []) i
+    none_ends zero j l (up_to h) = absurd (omega arith)
+    none_ends (suc zero) j l (up_to h) = absurd (omega arith)
+    none_ends (suc (suc i)) j l h = absurd (omega arith)
+
+-- The paper's set has a table of every length. P4's has one that is made by hand, of 3 slots: its second period does not end there.
+pub paper_table : (s : ℕ) → FiniteTable s paper_es paper_ps 3 (runs_from_start paper_es paper_ps)
+paper_table = accepted_served_finite paper_es paper_ps 3 (set 3 924 (Task 335 462)) admissions.0
+
+pub table_by_hand : FiniteTable 3 (1 ∷ 1 ∷ []) (2 ∷ 2 ∷ []) 1 eqb
+unfolding sum
+table_by_hand = record { few = one; served = once }
+  where
+    one : (u : ℕ) → Has (slots 3) (suc u) → count 2 (λ i. eqb i u) ≤ 1
+    one zero h = omega arith
+    one (suc zero) h = omega arith
+    one (suc (suc zero)) h = omega arith
+    one (suc (suc (suc u))) (up_to h) = absurd (omega arith)
+
+    once : (i j : ℕ) → i < 2 → Has (slots 3) (at (2 ∷ 2 ∷ []) i * suc j) → count (at (2 ∷ 2 ∷ []) i) (λ v. eqb i (at (2 ∷ 2 ∷ []) i * j + v)) ≡ at (1 ∷ 1 ∷ []) i
+    once zero zero l h = refl
+    once (suc zero) zero l h = refl
+    once zero (suc j) l (up_to h) = absurd (omega arith)
+    once (suc zero) (suc j) l (up_to h) = absurd (omega arith)
+    once (suc (suc i)) j l h = absurd (omega arith)
 
 -- The paper's first slot makes the one right choice.
 pub paper_first_choice : IsChoice (units_in_use paper_es paper_ps) 0 (field paper_es paper_ps (stepped paper_es paper_ps 3 0) 0)

@@ -6,6 +6,8 @@ pub mod Fields
 pub mod Dealt
 pub mod NeverStuck
 pub mod RefusalSix
+pub mod AnyLength
+pub mod FiniteTables
 pub mod OneChoice
 pub mod RunIsSlots
 pub mod RunFair

@@ -1,0 +1,9 @@
+pub mod Listed
+pub mod FairSets
+pub mod Runs
+pub mod Answers
+pub mod Nights
+pub mod SlotLines
+pub mod TranscriptLines
+pub mod TheProgramIsFair
+pub mod Instances

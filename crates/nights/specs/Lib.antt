@@ -1,0 +1,5 @@
+pub mod Sessions
+pub mod SlotLines
+pub mod Answers
+pub mod Nights
+pub mod TranscriptLines
