@@ -1,4 +1,4 @@
--- Document 01, "Frames", in its order: lines here; digits and fields in the crate `hex`; kinds, lengths and refusal 11 in `reading`
+-- Document 01, "Frames", in its order: lines here; digits and fields in the crate `digits`; kinds, lengths and refusal 11 in `reading`
 -- (Kinds.antt); what is kept (Session); the lines of an answer in `writing`; the answer to one line (Replies); a whole input (Transcript).
 pub mod Lines
 pub mod Session
