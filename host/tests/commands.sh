@@ -28,7 +28,7 @@ copy_to() {
     touch "$1/target/prettavorn.stamp"
 }
 
-# A line for each command of a page: passed, FAILED or long, with what a failed one said.
+# A line for each command of a page: passed, FAILED or long, with what a failed one said; and at the page's end, done.
 try_page() {
     local page=$1 copy=$room/${1//\//-} command
     while IFS= read -r command; do
@@ -45,19 +45,20 @@ try_page() {
         fi
     done < <(commands_of "$page")
     rm -rf "$copy"
+    echo "done $page"
 }
 
 # Four pages at a time, since most of it is the building of host programs.
-running=0
+pages=0
 for page in README.md docs/*.md examples/*.md host/*/README.md; do
-    [ "$((running += 1))" -le 4 ] || wait -n
+    [ "$((pages += 1))" -le 4 ] || wait -n
     try_page "$page" >"$room/${page//\//-}.said" &
 done
 wait
 
 cat "$room"/*.said >"$room/said"
 [ -z "${SHOW:-}" ] || cat "$room/said"
-grep -vE '^(passed|long) ' "$room/said" || true
+grep -vE '^(passed|long|done) ' "$room/said" || true
 count() { grep -c "^$1 " "$room/said" || true; }
 printf 'commands.sh: %s passed, %s failed, %s long ones not run\n' "$(count passed)" "$(count FAILED)" "$(count long)"
-[ "$(count FAILED)" -eq 0 ] && [ "$(count passed)" -gt 0 ]
+[ "$(count FAILED)" -eq 0 ] && [ "$(count 'done')" -eq "$pages" ]
