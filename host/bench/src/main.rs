@@ -9,11 +9,12 @@ mod sets;
 mod table;
 mod timing;
 
-use options::{Options, USAGE};
+use options::{Options, HELP};
 use program::Program;
+use std::io::{self, Write};
 use std::path::{Path, PathBuf};
 use std::process::{Command, ExitCode};
-use std::{env, fs, io};
+use std::{env, fs};
 use timing::Cell;
 
 const HEAD: &str = "# Speed
@@ -25,10 +26,22 @@ figure by the plain one's: 1.00 or more means at least as fast.
 ";
 
 fn main() -> ExitCode {
-    let Some(options) = Options::read(env::args().skip(1)) else {
-        eprintln!("{USAGE}");
-        return ExitCode::from(2);
+    let options = match Options::read(env::args().skip(1)) {
+        Ok(Some(options)) => options,
+        Ok(None) => {
+            // A reader that stops early (`| head`) is no error.
+            let _ = io::stdout().write_all(HELP.as_bytes());
+            return ExitCode::SUCCESS;
+        }
+        Err(wrong) => {
+            eprintln!("bench: {wrong} (bench --help says more)");
+            return ExitCode::from(2);
+        }
     };
+    if !rows::rows().iter().any(|row| options.wants(row)) {
+        eprintln!("bench: no row has '{}' in its name", options.only);
+        return ExitCode::from(2);
+    }
     match bench(&options) {
         Ok(true) => ExitCode::SUCCESS,
         Ok(false) => {
@@ -55,10 +68,7 @@ fn bench(options: &Options) -> io::Result<bool> {
     let mut text = table::head(&programs);
     let mut same = true;
     print!("{text}");
-    for row in rows::rows()
-        .iter()
-        .filter(|row| row.name.contains(&options.only))
-    {
+    for row in rows::rows().iter().filter(|row| options.wants(row)) {
         fs::create_dir_all(&dir)?;
         let cells = timing::time_row(row, &programs, options.runs, &dir);
         fs::remove_dir_all(&dir)?;
@@ -113,7 +123,7 @@ fn programs(options: &Options) -> io::Result<Vec<Program>> {
 fn built(name: &str) -> io::Result<PathBuf> {
     let package = root().join("host").join(name);
     let cargo = env::var_os("CARGO").unwrap_or("cargo".into());
-    let status = Command::new(cargo)
+    let status = Command::new(&cargo)
         .args([
             "build",
             "--release",
@@ -122,7 +132,8 @@ fn built(name: &str) -> io::Result<PathBuf> {
             "--manifest-path",
         ])
         .arg(package.join("Cargo.toml"))
-        .status()?;
+        .status()
+        .map_err(|why| program::cannot_run(Path::new(&cargo), why))?;
     if !status.success() {
         return Err(io::Error::other(format!("{name} cannot be built")));
     }

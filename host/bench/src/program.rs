@@ -28,7 +28,9 @@ impl Program {
         let mut command = self.command(script)?;
         command.stdout(Stdio::null());
         let start = Instant::now();
-        let status = command.status()?;
+        let status = command
+            .status()
+            .map_err(|why| cannot_run(&self.path, why))?;
         let time = start.elapsed();
         if !status.success() {
             return Err(io::Error::other(format!("{}: {status}", self.name)));
@@ -38,7 +40,11 @@ impl Program {
 
     /// The length and a hash of the answers to a script.
     pub fn answers(&self, script: &Path) -> io::Result<(u64, u64)> {
-        let mut child = self.command(script)?.stdout(Stdio::piped()).spawn()?;
+        let mut child = self
+            .command(script)?
+            .stdout(Stdio::piped())
+            .spawn()
+            .map_err(|why| cannot_run(&self.path, why))?;
         let mut output = child.stdout.take().expect("it is piped");
         let mut block = vec![0; 1 << 16];
         let mut length = 0;
@@ -54,6 +60,14 @@ impl Program {
         child.wait()?;
         Ok((length, hash))
     }
+}
+
+/// The error with the program's name.
+pub fn cannot_run(program: &Path, why: io::Error) -> io::Error {
+    io::Error::new(
+        why.kind(),
+        format!("cannot run {}: {why}", program.display()),
+    )
 }
 
 /// Fowler, Noll and Vo's hash, byte by byte.

@@ -1,18 +1,20 @@
-//! `compare`: see README.md for the commands.
+//! `compare`: see `--help`, and README.md for what is made from seeds.
 
-use compare::arguments::{self, Arguments, Work, USAGE};
+use compare::arguments::{self, Arguments, Work, HELP};
 use compare::check::{Difference, Pair};
 use compare::cuts::{self, Expected};
 use compare::scripts::{of_seed, Script};
 use compare::tally::Tally;
 use compare::{fixed, long, pipe, report};
-use std::io;
+use std::io::{self, Write};
 use std::process::ExitCode;
 use std::time::Instant;
 
 /// The gate's seeds and how many lines of each.
 const GATE_SEEDS: [u64; 6] = [1, 2, 3, 5, 8, 13];
 const GATE_LINES: usize = 2_000;
+const GATE_PIPE_LINES: usize = 30;
+const GATE_CUT_LINES: usize = 20;
 /// The seeds of the cuts and the pipes, if none are given.
 const SHORT_SEEDS: [u64; 3] = [101, 102, 103];
 
@@ -40,15 +42,24 @@ fn main() -> ExitCode {
     let arguments = match arguments::read(std::env::args().skip(1)) {
         Ok(arguments) => arguments,
         Err(wrong) => {
-            eprintln!("{wrong}\n{USAGE}");
+            eprintln!("compare: {wrong} (compare --help says more)");
             return ExitCode::from(2);
         }
     };
+    if arguments.work == Work::Help {
+        return help();
+    }
     let mut driver = Driver::new(&arguments);
     match driver.work(&arguments) {
         Ok(()) => driver.no_difference(),
         Err(stop) => stopped(stop, &arguments),
     }
+}
+
+/// A reader that stops early (`| head`) is no error.
+fn help() -> ExitCode {
+    let _ = io::stdout().write_all(HELP.as_bytes());
+    ExitCode::SUCCESS
 }
 
 /// What is printed when the work did not come to its end.
@@ -65,8 +76,7 @@ fn stopped(stop: Stop, arguments: &Arguments) -> ExitCode {
             ExitCode::from(1)
         }
         Stop::Failed(error) => {
-            let (ours, second) = (arguments.ours.display(), arguments.second.display());
-            eprintln!("cannot run {ours} or {second}: {error}");
+            eprintln!("compare: {error}");
             ExitCode::from(2)
         }
     }
@@ -108,17 +118,18 @@ impl Driver {
         match arguments.work {
             Work::Seeds => self.seeds(seeds, arguments.lines),
             Work::Gate => self.gate(),
-            Work::Cuts => self.cuts(short, 1),
-            Work::Pipe => self.pipe(short, 60),
+            Work::Cuts => self.cuts(short, arguments.lines, 1),
+            Work::Pipe => self.pipe(short, arguments.lines),
             Work::Long => self.long(),
+            Work::Help => Ok(()),
         }
     }
 
     fn gate(&mut self) -> Result<(), Stop> {
         self.fixed()?;
         self.seeds(&GATE_SEEDS, GATE_LINES)?;
-        self.pipe(&SHORT_SEEDS[..1], 30)?;
-        self.cuts(&SHORT_SEEDS[1..2], 5)
+        self.pipe(&SHORT_SEEDS[..1], GATE_PIPE_LINES)?;
+        self.cuts(&SHORT_SEEDS[1..2], GATE_CUT_LINES, 5)
     }
 
     fn compare(&mut self, script: &Script) -> Result<(), Stop> {
@@ -149,7 +160,7 @@ impl Driver {
 
     /// The short script at every place, the others `step` bytes apart, and all of
     /// them but the longest one byte at a time.
-    fn cuts(&mut self, seeds: &[u64], step: usize) -> Result<(), Stop> {
+    fn cuts(&mut self, seeds: &[u64], lines: usize, step: usize) -> Result<(), Stop> {
         self.cut(cuts::short_script(), 1)?;
         self.cut(cuts::wide_script(), 3 * step)?;
         let (script, places) = cuts::deep_script();
@@ -157,8 +168,9 @@ impl Driver {
         let expected = Expected::new(&self.pair.second, script)?;
         found(expected.at(&self.pair, places.into_iter().step_by(step))?)?;
         for &seed in seeds {
-            let script = of_seed(seed, 20).next().unwrap_or_default();
-            self.cut(script, 2 * step)?;
+            for script in of_seed(seed, lines) {
+                self.cut(script, 2 * step)?;
+            }
             self.seeds.push(seed);
         }
         self.told("cuts");

@@ -3,7 +3,7 @@
 
 use crate::check::{Difference, Pair};
 use crate::cuts::Found;
-use crate::program::{End, Outcome, Program, Running};
+use crate::program::{cannot, End, Outcome, Program, Running};
 use crate::scripts::Script;
 use std::fs::{self, File};
 use std::io;
@@ -85,7 +85,7 @@ impl Pipes {
         let number = NUMBER.fetch_add(1, Ordering::Relaxed);
         let name = format!("compare-{}-{number}", std::process::id());
         let folder = std::env::temp_dir().join(name);
-        fs::create_dir(&folder)?;
+        fs::create_dir(&folder).map_err(|why| cannot("make", &folder, why))?;
         let pipes = Pipes {
             input: folder.join("input"),
             output: folder.join("output"),
@@ -99,7 +99,10 @@ impl Pipes {
     /// To open one end of a named pipe waits for the other end, so both ends are
     /// held open until the program has its own.
     fn start(&self, program: &Program) -> io::Result<Running> {
-        let hold = |path: &Path| File::options().read(true).write(true).open(path);
+        let hold = |path: &Path| {
+            let opened = File::options().read(true).write(true).open(path);
+            opened.map_err(|why| cannot("open", path, why))
+        };
         let _held = (hold(&self.input)?, hold(&self.output)?);
         Running::start_on(program, &self.input, &self.output)
     }
@@ -113,10 +116,13 @@ impl Drop for Pipes {
 
 /// The standard library makes no named pipes; the system's own command does.
 fn make_pipe(path: &Path) -> io::Result<()> {
-    let status = Command::new("mkfifo").arg(path).status()?;
+    let status = Command::new("mkfifo")
+        .arg(path)
+        .status()
+        .map_err(|why| cannot("run", Path::new("mkfifo"), why))?;
     if status.success() {
         Ok(())
     } else {
-        Err(io::Error::other("mkfifo failed"))
+        Err(io::Error::other(format!("mkfifo failed: {status}")))
     }
 }

@@ -70,7 +70,8 @@ impl Running {
             .stdin(Stdio::piped())
             .stdout(Stdio::piped())
             .stderr(Stdio::null())
-            .spawn()?;
+            .spawn()
+            .map_err(|why| cannot("run", &program.path, why))?;
         let input = child.stdin.take().expect("a piped input");
         let output = child.stdout.take().expect("a piped output");
         Ok(Running::with(child, input, output, program.limit))
@@ -79,13 +80,18 @@ impl Running {
     /// The same on named pipes. The ends that only hold the pipes open while
     /// both sides open them are closed again by the caller.
     pub fn start_on(program: &Program, input: &Path, output: &Path) -> io::Result<Running> {
+        let reading = |path: &Path| File::open(path).map_err(|why| cannot("open", path, why));
+        let writing = |path: &Path| {
+            let opened = File::options().write(true).open(path);
+            opened.map_err(|why| cannot("open", path, why))
+        };
         let child = Command::new(&program.path)
-            .stdin(File::open(input)?)
-            .stdout(File::options().write(true).open(output)?)
+            .stdin(reading(input)?)
+            .stdout(writing(output)?)
             .stderr(Stdio::null())
-            .spawn()?;
-        let input = File::options().write(true).open(input)?;
-        let output = File::open(output)?;
+            .spawn()
+            .map_err(|why| cannot("run", &program.path, why))?;
+        let (input, output) = (writing(input)?, reading(output)?);
         Ok(Running::with(child, input, output, program.limit))
     }
 
@@ -194,6 +200,14 @@ fn how_ended(status: ExitStatus) -> End {
     }
 }
 
+/// The error with what could not be done, and to which file.
+pub fn cannot(what: &str, path: &Path, why: io::Error) -> io::Error {
+    io::Error::new(
+        why.kind(),
+        format!("cannot {what} {}: {why}", path.display()),
+    )
+}
+
 /// Each part is one write, so that a cut stays a cut.
 fn write_all(mut input: impl Write, parts: Receiver<Vec<u8>>) {
     for part in parts {
@@ -250,5 +264,11 @@ mod tests {
     #[test]
     fn a_program_that_is_not_there_is_an_error() {
         assert!(program("./no-such-program", 10).answer(b"").is_err());
+    }
+
+    #[test]
+    fn a_program_that_is_not_there_is_named() {
+        let error = program("./no-such-program", 10).answer(b"").unwrap_err();
+        assert!(error.to_string().contains("cannot run ./no-such-program"));
     }
 }

@@ -1,10 +1,11 @@
-//! `entries`: see README.md for the commands.
+//! `entries`: see `--help`, and README.md for what is made from seeds.
 
-use entries::arguments::{self, Work, USAGE};
+use entries::arguments::{self, Work, HELP};
 use entries::check::put;
 use entries::make::case;
 use entries::tally::Tally;
 use entries::{published, report, watch};
+use std::io::{self, Write};
 use std::process::ExitCode;
 use std::time::Instant;
 
@@ -16,15 +17,15 @@ fn main() -> ExitCode {
     let work = match arguments::read(std::env::args().skip(1)) {
         Ok(work) => work,
         Err(wrong) => {
-            eprintln!("{wrong}\n{USAGE}");
+            eprintln!("entries: {wrong} (entries --help says more)");
             return ExitCode::from(2);
         }
     };
-    if watch::watched() {
+    if work == Work::Help || watch::watched() {
         return work_through(work);
     }
     watch::watch().unwrap_or_else(|error| {
-        eprintln!("cannot start again: {error}");
+        eprintln!("entries: {error}");
         ExitCode::from(2)
     })
 }
@@ -37,6 +38,11 @@ fn work_through(work: Work) -> ExitCode {
         Work::Only { seed, number } => {
             println!("{}", report::case_text(&case(seed, number)));
             one(seed, number, &mut Tally::default())
+        }
+        Work::Help => {
+            // A reader that stops early (`| head`) is no error.
+            let _ = io::stdout().write_all(HELP.as_bytes());
+            return ExitCode::SUCCESS;
         }
     };
     if right {

@@ -30,11 +30,16 @@ pub fn now(what: &str) {
 
 /// Starts this program again with the same arguments and watches it.
 pub fn watch() -> io::Result<ExitCode> {
-    let mut child = Command::new(env::current_exe()?)
+    let program = env::current_exe()?;
+    let mut child = Command::new(&program)
         .args(env::args().skip(1))
         .env(WATCHED, "yes")
         .stderr(Stdio::piped())
-        .spawn()?;
+        .spawn()
+        .map_err(|why| {
+            let what = format!("cannot run {} again: {why}", program.display());
+            io::Error::new(why.kind(), what)
+        })?;
     let words = words(child.stderr.take().expect("a piped stream"));
     let (last, hangs) = last_word(&words);
     if hangs {

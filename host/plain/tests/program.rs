@@ -28,6 +28,22 @@ fn answers_before_it_waits() {
     assert!(child.wait().unwrap().success());
 }
 
+#[test]
+fn words_that_are_not_known_are_refused() {
+    let ended = |words: &[&str]| {
+        let mut command = Command::new(env!("CARGO_BIN_EXE_plain"));
+        let output = command.args(words).stdin(Stdio::null()).output().unwrap();
+        (
+            output.status.code(),
+            String::from_utf8(output.stdout).unwrap(),
+        )
+    };
+    let (code, help) = ended(&["--help"]);
+    assert_eq!((code, help.starts_with("plain: ")), (Some(0), true));
+    assert_eq!(ended(&["--pairs"]), (Some(0), String::new()));
+    assert_eq!(ended(&["--pair"]), (Some(2), String::new()));
+}
+
 /// Keeps the end of what is written.
 struct Tail(Vec<u8>);
 

@@ -8,6 +8,7 @@ mod entries;
 mod frames;
 mod refusal;
 mod rule;
+pub mod words;
 
 pub use entries::{admission, comparison, listing, run, slot, Admitted, RunAnswer, Winner};
 pub use frames::{serve, Session};

@@ -1,32 +1,43 @@
 //! A driver for the entries of document 01 on free inputs, for comparison with
-//! another program. Each line of standard input is one request, in decimal with
-//! blanks between:
-//!
-//! - `A m n e1..en q p1..pq`
-//! - `C e p e2 p2 t`
-//! - `S m t n e.. q p.. r k.. s` (s bytes are lent, all 9 at first)
-//! - `L m t n e.. q p.. r k.. s`
-//! - `R m t slots n e.. q p.. r k.. s` (the log has s bytes, all 9 at first)
-//!
-//! The answer is one line, its words with one blank between:
-//!
-//! - `A ok M L spare_e spare_p` (0 0 if there is none), `A no NUMBER CARRIED`
-//! - `C 0`, `C 1` or `C 2` (first, second, tie), `C no NUMBER CARRIED`
-//! - `S ok k.. | b..`, `S no NUMBER CARRIED | k.. | b..`
-//! - `L ok | b..`, `L no NUMBER CARRIED | b..`
-//! - `R DONE ok | k.. | b..`, `R DONE no NUMBER CARRIED | k.. | b..`
-//!
-//! A line that is no such request is answered with `bad`.
+//! another program.
 
 use second::{admission, comparison, listing, run, slot, Refusal, Winner};
 use std::fmt::Display;
 use std::io::{self, BufRead, BufWriter, Write};
+use std::process::ExitCode;
 use std::str::SplitWhitespace;
+
+const HELP: &str = "\
+entries: the entries (docs/RULES.md) on free inputs, by the second program's functions.
+
+Usage: entries
+Each line of standard input is one request, in decimal with blanks between. There is no option but --help.
+  A m n e1..en q p1..pq
+  C e p e2 p2 t
+  S m t n e.. q p.. r k.. s         (s bytes are lent, all 9 at first)
+  L m t n e.. q p.. r k.. s
+  R m t slots n e.. q p.. r k.. s   (the log has s bytes, all 9 at first)
+The answer is one line, its words with one blank between.
+  A ok M L spare_e spare_p (0 0 if there is none), A no NUMBER CARRIED
+  C 0, C 1 or C 2 (first, second, tie), C no NUMBER CARRIED
+  S ok k.. | b.., S no NUMBER CARRIED | k.. | b..
+  L ok | b.., L no NUMBER CARRIED | b..
+  R DONE ok | k.. | b.., R DONE no NUMBER CARRIED | k.. | b..
+A line that is no such request is answered with bad.
+
+Codes: 0 all was answered; 1 a read or a write failed; 2 a word that is not known.
+
+Example: echo C 1 2 1 3 1 | host/second/target/release/entries
+";
 
 /// The value that lent bytes have before the call.
 const LENT: u8 = 9;
 
-fn main() -> io::Result<()> {
+fn main() -> ExitCode {
+    second::words::run("entries", HELP, serve)
+}
+
+fn serve() -> io::Result<()> {
     let mut input = io::stdin().lock();
     let mut output = BufWriter::new(io::stdout().lock());
     let mut line = Vec::new();
