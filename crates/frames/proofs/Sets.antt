@@ -5,6 +5,7 @@ use Prim.Native.Nat.{ℕ, zero, suc, ◌+◌, ◌*◌, ◌≤◌, ◌<◌}
 use native.Mathlib.Omega.{arith}
 use lib.ListN.{length, take}
 use lib.Seq.{length-take-le}
+use Rattle.std.specs.Prelude.{Some}
 use Rattle.rule.specs.declared.Accepted.{Accepted}
 use Rattle.rule.specs.declared.Admission.TheVariants.{Accepted as accepted, Refused as not_admitted}
 use Rattle.rule.specs.declared.Refusal.{Refusal}
@@ -26,7 +27,7 @@ use Rattle.frames.specs.Keeping.{session_of}
 use Rattle.frames.proofs.Keeping.{in_force_lem}
 use Rattle.frames.proofs.Asking.{asked_admit}
 
-module _ (line : List ℕ) (m n : ℕ) (asks : asked_by (read line) ≡ Admit m n) (es ps : List ℕ)
+module _ (line : List ℕ) (m n : ℕ) (asks : asked_by (read line) ≡ Some (Admit m n)) (es ps : List ℕ)
     (first-column : es ≡ column line 3) (second-column : ps ≡ column line 5) (w : Session) where
   set_reply : reply w (read line) ≡ admit_reply w m (take n es) (take n ps) (admission (take n es) (take n ps) m)
   unfolding reply

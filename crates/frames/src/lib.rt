@@ -204,7 +204,7 @@ fn admitted(
     n: usize,
     out: &mut [u8],
 ) -> Answered
-    requires asked { (asked_by (read line.now) ≡ Asked.Admit m n) × (n ≤ 64) }
+    requires asked { (asked_by (read line.now) ≡ Some (Asked.Admit m n)) × (n ≤ 64) }
     requires room { (64 ≤ length requirements.old) × (64 ≤ length periods.old) × (64 ≤ length counts.old) × (kept.n ≤ 64) }
     ensures session { session_of result.kept requirements.new periods.new counts.new ≡ (reply (session_of kept requirements.old periods.old counts.old) (read line.now)).session }
     ensures text { out.new ≡ sets out.old 0 (reply (session_of kept requirements.old periods.old counts.old) (read line.now)).text }
@@ -319,13 +319,13 @@ pub fn answer(
         };
     }
     match reading::what_is_asked(line) {
-        Asked::Admit { m, n } => admitted(kept, requirements, periods, counts, line, m, n, out),
-        Asked::Run { slots } => answer_run(kept, requirements, periods, counts, log, slots, out),
-        Asked::List => Answered {
+        Some(Asked::Admit { m, n }) => admitted(kept, requirements, periods, counts, line, m, n, out),
+        Some(Asked::Run { slots }) => answer_run(kept, requirements, periods, counts, log, slots, out),
+        Some(Asked::List) => Answered {
             kept: kept,
             size: answer_list(kept, requirements, periods, counts, log, out),
         },
-        Asked::Malformed => Answered {
+        None => Answered {
             kept: kept,
             size: writing::put_malformed(out),
         },

@@ -70,9 +70,5 @@ pub fn what_is_asked(line: &[u8]) -> Option<Asked>
 pub fn column(line: &[u8], from: u8) -> [u32; 64]
     ensures { result ≡ column_of line.now from }
 {
-    let mut numbers = [0; 64];
-    for (i, number) in numbers.iter_mut().enumerate() {
-        *number = digits::pair_at(line, from as usize + 4 * i);
-    }
-    numbers
+    std::array::from_fn(|i| digits::pair_at(line, from as usize + 4 * i))
 }

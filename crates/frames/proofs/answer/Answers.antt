@@ -3,6 +3,7 @@ use mathlib.Core.Path.{refl, sym, ap, ◌∙◌}
 use borrow.Author.Rules.{rules}
 use lib.ListN.{length}
 use lib.Seq.{sets}
+use Rattle.std.specs.Prelude.{Some}
 use Rattle.frames.specs.Replies.{reply}
 use Rattle.reading.specs.Kinds.{read}
 use Rattle.frames.specs.Keeping.{session_of}
@@ -26,7 +27,7 @@ returns-then-not-has_room c =
 pub admitted-requires : goal.admitted-requires
 admitted-requires c =
     let f = roomy _ _ _ _ _ (sym c.has_room.ensures ∙ c.if-not-has_room.false) in
-    let asks = sym c.what_is_asked.ensures ∙ c.in-Admit.is in
+    let asks = sym c.what_is_asked.ensures ∙ c.in-Some-Admit.is ∙ ap Some c.in-Some-Admit.field-0-is in
     record {
       asked = (asks, (asked_admit _ _ _ asks).1);
       room = (f.1, f.2, f.3, f.0);
@@ -48,8 +49,8 @@ answer_list-requires c =
       room = (f.1, f.2, f.3, f.4);
     }
 
-pub returns-in-Admit : goal.returns-in-Admit
-returns-in-Admit c =
+pub returns-in-Some-Admit : goal.returns-in-Some-Admit
+returns-in-Some-Admit c =
     let was = session_of c.args.kept c.args.requirements.now c.args.periods.now c.args.counts.now in
     let room = with_room c.args.kept c.args.requirements.now c.args.periods.now c.args.counts.now c.args.log.now c.args.line.now was (sym c.has_room.ensures ∙ c.if-not-has_room.false) in
     -- there is room, as was seen
@@ -61,13 +62,13 @@ returns-in-Admit c =
       room = room_stays _ _ _ _ _ _ _ _ _ _ seen.0 c.admitted.ensures.tasks (search rules) (search rules) (search rules) (search rules);
     }
 
-pub returns-in-Run : goal.returns-in-Run
-returns-in-Run c =
+pub returns-in-Some-Run : goal.returns-in-Some-Run
+returns-in-Some-Run c =
     let was = session_of c.args.kept c.args.requirements.now c.args.periods.now c.args.counts.now in
     let room = with_room c.args.kept c.args.requirements.now c.args.periods.now c.args.counts.now c.args.log.now c.args.line.now was (sym c.has_room.ensures ∙ c.if-not-has_room.false) in
     -- there is room, as was seen
     let seen = roomy _ _ _ _ _ (sym c.has_room.ensures ∙ c.if-not-has_room.false) in
-    let asks = asked_run (read c.args.line.now) _ (sym c.what_is_asked.ensures ∙ c.in-Run.is) in
+    let asks = asked_run (read c.args.line.now) _ (sym c.what_is_asked.ensures ∙ c.in-Some-Run.is ∙ ap Some c.in-Some-Run.field-0-is) in
     record {
       session = c.answer_run.ensures.session ∙ ap (λ f. (reply was f).session) (sym asks) ∙ ap (λ r. r.session) room;
       text = c.answer_run.ensures.text ∙ ap (λ f. sets c.args.out.now 0 (reply was f).text) (sym asks) ∙ ap (λ r. sets c.args.out.now 0 r.text) room;
@@ -75,13 +76,13 @@ returns-in-Run c =
       room = room_stays _ _ _ _ _ _ _ _ _ _ seen.0 c.answer_run.ensures.tasks (search rules) (search rules) (search rules) (search rules);
     }
 
-pub returns-in-List : goal.returns-in-List
-returns-in-List c =
+pub returns-in-Some-List : goal.returns-in-Some-List
+returns-in-Some-List c =
     let was = session_of c.args.kept c.args.requirements.now c.args.periods.now c.args.counts.now in
     let room = with_room c.args.kept c.args.requirements.now c.args.periods.now c.args.counts.now c.args.log.now c.args.line.now was (sym c.has_room.ensures ∙ c.if-not-has_room.false) in
     -- there is room, as was seen
     let seen = roomy _ _ _ _ _ (sym c.has_room.ensures ∙ c.if-not-has_room.false) in
-    let asks = asked_list (read c.args.line.now) (sym c.what_is_asked.ensures ∙ c.in-List.is) in
+    let asks = asked_list (read c.args.line.now) (sym c.what_is_asked.ensures ∙ c.in-Some-List.is ∙ ap Some c.in-Some-List.field-0-is) in
     record {
       session = sym (list_keeps was) ∙ ap (λ f. (reply was f).session) (sym asks) ∙ ap (λ r. r.session) room;
       text = c.answer_list.ensures.text ∙ ap (λ f. sets c.args.out.now 0 (reply was f).text) (sym asks) ∙ ap (λ r. sets c.args.out.now 0 r.text) room;
@@ -89,13 +90,13 @@ returns-in-List c =
       room = room_stays _ _ _ _ _ _ _ _ _ _ seen.0 seen.0 (search rules) (search rules) (search rules) (search rules);
     }
 
-pub returns-in-Malformed : goal.returns-in-Malformed
-returns-in-Malformed c =
+pub returns-in-None : goal.returns-in-None
+returns-in-None c =
     let was = session_of c.args.kept c.args.requirements.now c.args.periods.now c.args.counts.now in
     let room = with_room c.args.kept c.args.requirements.now c.args.periods.now c.args.counts.now c.args.log.now c.args.line.now was (sym c.has_room.ensures ∙ c.if-not-has_room.false) in
     -- there is room, as was seen
     let seen = roomy _ _ _ _ _ (sym c.has_room.ensures ∙ c.if-not-has_room.false) in
-    let asks = asked_malformed (read c.args.line.now) (sym c.what_is_asked.ensures ∙ c.in-Malformed.is) in
+    let asks = asked_malformed (read c.args.line.now) (sym c.what_is_asked.ensures ∙ c.in-None.is) in
     let said = malformed_reply was in
     record {
       session = sym said.0 ∙ ap (λ f. (reply was f).session) (sym asks) ∙ ap (λ r. r.session) room;

@@ -1,18 +1,18 @@
--- At the loop's end all places have their fields. Assumes nothing.
-use mathlib.Core.Path.{◌≡◌, sym, ap, ◌∙◌}
+-- `column` meets its contract: each call keeps the line and the first place, and gives the field of its index. Assumes nothing.
+use mathlib.Core.Path.{◌≡◌, refl}
+use mathlib.Core.List.{List}
 use Prim.Native.Nat.{ℕ, ◌+◌, ◌*◌}
-use native.Mathlib.Omega.{arith}
-use lib.ListN.{length}
-use Rattle.rule.specs.Places.{each}
-use Rattle.rule.proofs.Written.{written_none, written_rest}
+use borrow.Author.Rules.{rules}
+use denote.Bor.{Bor}
 use Rattle.digits.specs.Digits.{bytes_of}
 use Rattle.digits.specs.Fields.{field_at}
 use Rattle.reading.specs.Asking.{column}
+use Rattle.reading.proofs.Calls.{each_called}
 use Rattle.reading.proofs.column.Goals as goal
 
 pub returns : goal.returns
 unfolding column
 returns c =
-    let f : ℕ → ℕ = λ j. field_at 2 (bytes_of c.args.line.now) (c.args.from + 4 * j) in
-    let long : length c.loop-i.number-items ≡ 64 = omega arith in
-    written_none f _ ∙ written_rest 0 f c.loop-i.number-items (λ j some l. c.loop-i.invariant j (omega arith)) ∙ ap (λ n. each n f) long
+    each_called {F = Bor (List ℕ) × Bor ℕ} _ (λ f. (f.0.now ≡ c.args.line.now) × (f.1.now ≡ c.args.from))
+    (λ i. field_at 2 (bytes_of c.args.line.now) (c.args.from + 4 * i)) (λ p q i y h called. search rules) _ c.from_fn.result 64 (refl, refl)
+    c.from_fn.ensures.items
