@@ -2,15 +2,15 @@
 // a caller can tell. Where a place is given it is bounded only so that no sum of places is too large for a usize.
 #![tactic(auto)]
 
-ghost use Rattle.std.specs.Prelude.{◌≡◌, [], ◌∷◌, ◌+◌, ◌*◌, ◌^◌, ◌<◌, ◌≤◌, length};
+ghost use Rattle.std.specs.Prelude.{◌≡◌, [], ◌∷◌, ◌++◌, ◌+◌, ◌*◌, ◌^◌, ◌<◌, ◌≤◌, length};
 ghost use Rattle.std.proofs.lemmas.List.Edits.{sets};
 ghost use Rattle.rule.specs.Answers.{carried_by};
 ghost use Rattle.digits.specs.Digits.{digits_of};
 ghost use Rattle.digits.specs.Fields.{field};
-ghost use Rattle.writing.specs.AnswerLines.{line_feed, place_byte, refusal_by, refusal_line, malformed_line, spare_bytes, accepted_line};
+ghost use Rattle.writing.specs.AnswerLines.{line_feed, place_byte, refusal_by, refusal_line, malformed_line, spare_bytes, accepted_line, listing_line};
 ghost use Rattle.writing.specs.AnswerLines.{places_from, slot_line, slot_lines, end_line, listing_text, run_fits_in, run_text};
 
-use rule::{Accepted, Outcome, Refusal, Spare};
+use rule::{Accepted, Refusal, Weight};
 
 // What ends a line.
 const LINE_FEED: u8 = 0x0A;
@@ -88,19 +88,31 @@ impl<'a> Writer<'a> {
     }
 
     // Writes the spare's two fields: 0 and 0 if there is none.
-    fn spare(&mut self, spare: Spare)
+    #[tactic(auto, unfolding(digits::specs::Digits::digits_of, digits::specs::Fields::field))]
+    fn spare(&mut self, spare: Option<Weight>)
         requires { self.old.at < 2 ^ 35 }
         ensures { Writes self.old self.new (digits_of (spare_bytes spare)) }
     {
-        let (e, p) = match spare {
-            Spare::Nobody => (0, 0),
-            Spare::Task { e, p } => (e, p),
-        };
+        let Weight { e, p } = spare.unwrap_or(Weight { e: 0, p: 0 });
         self.field(4, e);
         self.field(4, p);
     }
 
+    // Writes the line of an accepted set.
+    #[tactic(auto, unfolding(digits::specs::Digits::digits_of, digits::specs::Fields::field), using(digits::proofs::Digits::length_digits, crate::proofs::Sizes::length_spare))]
+    fn accepted(&mut self, accepted: Accepted)
+        requires { self.old.at < 2 ^ 34 }
+        ensures { Writes self.old self.new (accepted_line accepted) }
+    {
+        self.byte(0x81);
+        self.field(1, accepted.units);
+        self.field(4, accepted.multiple);
+        self.spare(accepted.spare);
+        self.end();
+    }
+
     // Writes bytes as they are.
+    #[tactic(auto, using(digits::proofs::Digits::length_digits))]
     fn bytes(&mut self, bytes: &[u8])
         requires { (self.old.at < 2 ^ 35) × (length bytes.now ≤ 64) }
         ensures { Writes self.old self.new (digits_of bytes.now) }
@@ -110,7 +122,20 @@ impl<'a> Writer<'a> {
         }
     }
 
+    // Writes the line of a listing.
+    #[tactic(auto, unfolding(digits::specs::Digits::digits_of, digits::specs::Fields::field), using(digits::proofs::Digits::length_digits))]
+    fn listing(&mut self, t: u32, bytes: &[u8])
+        requires { (self.old.at < 2 ^ 34) × (length bytes.now ≤ 64) }
+        ensures { Writes self.old self.new (listing_line t bytes.now) }
+    {
+        self.byte(0x83);
+        self.field(4, t);
+        self.bytes(bytes);
+        self.end();
+    }
+
     // Writes the places of the tasks that ran, rising.
+    #[tactic(auto, using(digits::proofs::Digits::length_digits, crate::proofs::Sizes::places_few))]
     fn places(&mut self, bytes: &[u8])
         requires { (self.old.at < 2 ^ 35) × (length bytes.now ≤ 64) }
         ensures { Writes self.old self.new (digits_of (places_from 0 bytes.now)) }
@@ -123,6 +148,7 @@ impl<'a> Writer<'a> {
     }
 
     // Writes the line of one slot.
+    #[tactic(auto, unfolding(digits::specs::Digits::digits_of, digits::specs::Fields::field), using(digits::proofs::Digits::length_digits, crate::proofs::Sizes::places_few))]
     fn slot(&mut self, t: u32, bytes: &[u8])
         requires { (self.old.at < 2 ^ 34) × (length bytes.now ≤ 64) }
         ensures { Writes self.old self.new (slot_line t bytes.now) }
@@ -149,14 +175,24 @@ impl<'a> Writer<'a> {
 
     // Writes the line of the refusal that stopped a run, if one did.
     #[tactic(auto, unfolding(crate::specs::AnswerLines::end_line))]
-    fn run_end(&mut self, end: Outcome)
+    fn run_end(&mut self, end: Result<(), Refusal>)
         requires { self.old.at < 2 ^ 35 }
         ensures { Writes self.old self.new (end_line end) }
     {
         match end {
-            Outcome::Done => {}
-            Outcome::Refused(refusal) => self.refused(refusal),
+            Ok(()) => {}
+            Err(refusal) => self.refused(refusal),
         }
+    }
+
+    // Writes the lines of a run: those of its slots, and that of its end.
+    fn run(&mut self, slots: u32, n: usize, t: u32, log: &[u8], end: Result<(), Refusal>)
+        requires room { self.old.at < 2 ^ 33 }
+        requires limits { (slots ≤ 1024) × (n ≤ 64) × (slots * n ≤ length log.now) × (t + slots ≤ 4294967295) }
+        ensures { Writes self.old self.new (slot_lines slots n t log.now ++ end_line end) }
+    {
+        self.slots(slots, n, t, log);
+        self.run_end(end);
     }
 }
 
@@ -205,15 +241,12 @@ pub fn put_accepted(out: &mut [u8], accepted: Accepted) -> usize
     ensures place { result ≡ length (accepted_line accepted) }
 {
     let mut line = Writer::new(out);
-    line.byte(0x81);
-    line.field(1, accepted.units);
-    line.field(4, accepted.multiple);
-    line.spare(accepted.spare);
-    line.end();
+    line.accepted(accepted);
     line.at
 }
 
 // Writes the line of a listing, and answers its length. No listing has more than 64 bytes: of more nothing is written.
+#[tactic(auto, unfolding(crate::specs::AnswerLines::listing_text))]
 pub fn put_listing(out: &mut [u8], t: u32, bytes: &[u8]) -> usize
     ensures out { out.new ≡ sets out.old 0 (listing_text t bytes.now) }
     ensures place { result ≡ length (listing_text t bytes.now) }
@@ -222,10 +255,7 @@ pub fn put_listing(out: &mut [u8], t: u32, bytes: &[u8]) -> usize
         return 0;
     }
     let mut line = Writer::new(out);
-    line.byte(0x83);
-    line.field(4, t);
-    line.bytes(bytes);
-    line.end();
+    line.listing(t, bytes);
     line.at
 }
 
@@ -243,7 +273,8 @@ fn run_fits(slots: u32, n: usize, t: u32, size: usize) -> bool
 
 // Writes the lines of so many slots of n tasks from time t on, and then that of the refusal that stopped the run, if one did; answers
 // their length. Where the run does not fit nothing is written.
-pub fn put_run(out: &mut [u8], slots: u32, n: usize, t: u32, log: &[u8], end: Outcome) -> usize
+#[tactic(auto, unfolding(crate::specs::AnswerLines::run_text))]
+pub fn put_run(out: &mut [u8], slots: u32, n: usize, t: u32, log: &[u8], end: Result<(), Refusal>) -> usize
     ensures out { out.new ≡ sets out.old 0 (run_text slots n t log.now end) }
     ensures place { result ≡ length (run_text slots n t log.now end) }
 {
@@ -251,7 +282,6 @@ pub fn put_run(out: &mut [u8], slots: u32, n: usize, t: u32, log: &[u8], end: Ou
         return 0;
     }
     let mut lines = Writer::new(out);
-    lines.slots(slots, n, t, log);
-    lines.run_end(end);
+    lines.run(slots, n, t, log, end);
     lines.at
 }

@@ -1,0 +1,26 @@
+use mathlib.Core.Path.{◌≡◌}
+use Prim.Native.Nat.{◌+◌, ◌-◌, ◌*◌}
+use native.Mathlib.Numerals.{add-one}
+use native.Mathlib.Omega.{arith}
+use lib.ListN.{length, length-take, take, drop}
+use Rattle.writing.specs.AnswerLines.{slot_lines}
+use Rattle.writing.proofs.Sizes.{slots_small}
+use Rattle.writing.proofs.Writes.{none, then, slots_more}
+use Rattle.writing.proofs.Writer.slots.Goals as goal
+
+pub loop-slot-init : goal.loop-slot-init
+unfolding slot_lines
+loop-slot-init c = none _
+
+pub slot-requires : goal.slot-requires
+slot-requires c =
+    let from = c.loop-slot.slot * c.args.n in
+    let whole : from + c.args.n - from ≡ c.args.n = omega arith in
+    (omega (arith, slots_small c.loop-slot.slot c.args.n c.args.t c.args.log.now c.requires.limits.1), simp (whole, length-take) (omega arith))
+
+pub loop-slot-preserved : goal.loop-slot-preserved
+loop-slot-preserved c =
+    let from = c.loop-slot.slot * c.args.n in
+    let whole : from + c.args.n - from ≡ c.args.n = omega arith in
+    let line = rw whole at c.slot.ensures in
+    rw (add-one, slots_more) (then c.loop-slot.invariant line)

@@ -1,0 +1,5 @@
+use Rattle.writing.proofs.Writes.{then_digits, spare_fields}
+use Rattle.writing.proofs.Writer.spare.Goals as goal
+
+pub returns : goal.returns
+returns c = rw (← spare_fields c.args.spare, ← c.unwrap_or-e.ensures) (then_digits _ _ c.field.ensures c.field-2.ensures)
