@@ -274,7 +274,14 @@ fn run_fits(slots: u32, n: usize, t: u32, size: usize) -> bool
 // Writes the lines of so many slots of n tasks from time t on, and then that of the refusal that stopped the run, if one did; answers
 // their length. Where the run does not fit nothing is written.
 #[tactic(auto, unfolding(crate::specs::AnswerLines::run_text))]
-pub fn put_run(out: &mut [u8], slots: u32, n: usize, t: u32, log: &[u8], end: Result<(), Refusal>) -> usize
+pub fn put_run(
+    out: &mut [u8],
+    slots: u32,
+    n: usize,
+    t: u32,
+    log: &[u8],
+    end: Result<(), Refusal>,
+) -> usize
     ensures out { out.new ≡ sets out.old 0 (run_text slots n t log.now end) }
     ensures place { result ≡ length (run_text slots n t log.now end) }
 {

@@ -24,6 +24,6 @@ pub loop-task-preserved : goal.loop-task-preserved
 loop-task-preserved c =
     let more = places_more c.args.bytes.now c.loop-task.task (omega arith) in
     elim c.if-byte-eq1.branch [
-      then-byte-eq1 w ↦ rw (more, eq-eqb _ _ w.if-byte-eq1.true, w.self-is) (then_digits _ _ c.loop-task.invariant w.byte.ensures)
-    | else-byte-eq1 w ↦ rw (more, ne_eqb _ _ w.if-byte-eq1.false, w.self-is, append-nil) c.loop-task.invariant
+      | then-byte-eq1 w ↦ rw (more, eq-eqb _ _ w.if-byte-eq1.true, w.self-is) (then_digits _ _ c.loop-task.invariant w.byte.ensures)
+      | else-byte-eq1 w ↦ rw (more, ne_eqb _ _ w.if-byte-eq1.false, w.self-is, append-nil) c.loop-task.invariant
     ]

@@ -2,7 +2,7 @@ use mathlib.Core.Path.{◌≡◌}
 use Prim.Native.Nat.{◌+◌, ◌-◌, ◌*◌}
 use native.Mathlib.Numerals.{add-one}
 use native.Mathlib.Omega.{arith}
-use lib.ListN.{length, length-take, take, drop}
+use lib.ListN.{length-take}
 use Rattle.writing.specs.AnswerLines.{slot_lines}
 use Rattle.writing.proofs.Sizes.{slots_small}
 use Rattle.writing.proofs.Writes.{none, then, slots_more}
