@@ -10,9 +10,7 @@ use lib.ListN.{length, take, drop, length-append, length-take}
 use lib.Seq.{drop-drop}
 use Rattle.std.specs.Prelude.{Option, None, Some}
 use Rattle.std.specs.Option.{unwrap_or}
-use Rattle.std.specs.List.{count_by}
 use Rattle.std.proofs.lemmas.List.{take_more}
-use Rattle.std.proofs.lemmas.List.Sums.{sum_by-cons}
 use Rattle.rule.specs.declared.Weight.{Weight}
 use Rattle.digits.specs.Fields.{field}
 use Rattle.rule.specs.Places.{at}
@@ -50,15 +48,6 @@ places_append i (x ∷ xs) ys =
         cond t (i ∷ (rest ++ more)) (rest ++ more) ≡ cond t (i ∷ rest) rest ++ more
     go true = refl
     go false = refl
-
-pub length_places : (i : ℕ) (bytes : List ℕ) → length (places_from i bytes) ≡ count_by (λ b. eqb b 1) bytes
-unfolding places_from
-length_places i [] = refl
-length_places i (b ∷ bytes) = rw (sum_by-cons (λ x. cond (eqb x 1) 1 0) b bytes) (go (eqb b 1) (length_places (suc i) bytes))
-  where
-    go : {n : ℕ} (t : Bool) → let rest = places_from (suc i) bytes in length rest ≡ n → length (cond t (i ∷ rest) rest) ≡ cond t 1 0 + n
-    go true same = omega arith
-    go false same = omega arith
 
 -- The places of the tasks up to the next are those before it, and its own if it ran.
 pub places_more : (bytes : List ℕ) (i : ℕ) → i < length bytes

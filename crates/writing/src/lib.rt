@@ -1,5 +1,5 @@
 // Writing: the lines of an answer. Each line is stored as far as there is room, and the place after it is that of the whole line, so that
-// a caller can tell. Where a place is given it is bounded only so that no sum of places is too large for a usize.
+// a caller can tell.
 #![tactic(auto)]
 
 ghost use Rattle.std.specs.Prelude.{◌≡◌, [], ◌∷◌, ◌++◌, ◌+◌, ◌*◌, ◌^◌, ◌<◌, ◌≤◌, length};
@@ -18,7 +18,8 @@ const LINE_FEED: u8 = 0x0A;
 // Where a refusal names no place.
 const NO_PLACE: u32 = 0xFF;
 
-// Where an answer is written: the lent buffer, and the place after what is written so far.
+// Where an answer is written: the lent buffer, and the place after what is written so far. Its methods bound the place only so that no sum
+// of places is too large for a usize.
 #[derive(Drop)]
 struct Writer<'a> {
     out: &'a mut [u8],
@@ -79,6 +80,7 @@ impl<'a> Writer<'a> {
         self.end();
     }
 
+    // Writes a refusal's line.
     #[tactic(auto, unfolding(crate::specs::AnswerLines::refusal_line))]
     fn refused(&mut self, refusal: Refusal)
         requires { self.old.at < 2 ^ 35 }

@@ -3,7 +3,7 @@ use mathlib.Core.Path.{◌≡◌, refl}
 use mathlib.Core.List.{List}
 use Prim.Native.Nat.{ℕ, ◌+◌, ◌*◌}
 use borrow.Author.Rules.{rules}
-use denote.Bor.{Bor}
+use Rattle.std.proofs.Common.{Bor}
 use Rattle.digits.specs.Digits.{bytes_of}
 use Rattle.digits.specs.Fields.{field_at}
 use Rattle.reading.specs.Asking.{column}

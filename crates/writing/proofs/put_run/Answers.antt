@@ -1,3 +1,4 @@
+-- `put_run` meets its contract: a run that fits is within the limits of `run`. Assumes nothing.
 use mathlib.Core.Path.{sym, ◌∙◌}
 use Rattle.writing.proofs.Texts.{within_room}
 use Rattle.writing.proofs.put_run.Goals as goal

@@ -1,3 +1,4 @@
+-- `accepted` meets its contract: each part of the line is written where the one before ends. Assumes nothing.
 use Rattle.digits.specs.Digits.{digits_of}
 use Rattle.digits.specs.Fields.{field}
 use Rattle.writing.specs.AnswerLines.{line_of, accepted_line}

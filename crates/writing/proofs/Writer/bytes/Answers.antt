@@ -1,3 +1,4 @@
+-- `bytes` meets its contract: each byte's digits are written where those before end. Assumes nothing.
 use native.Mathlib.Omega.{arith}
 use lib.ListN.{length-take}
 use Rattle.std.proofs.lemmas.List.{take_more}

@@ -1,3 +1,4 @@
+-- `places` meets its contract: a task that ran adds its place, and another adds nothing. Assumes nothing.
 use mathlib.Core.List.{append-nil}
 use native.Mathlib.Omega.{arith}
 use borrow.Author.Tests.{eq-eqb, ne_eqb}

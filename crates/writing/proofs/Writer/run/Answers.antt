@@ -1,3 +1,4 @@
+-- `run` meets its contract: the line of the end is written where those of the slots end. Assumes nothing.
 use native.Mathlib.Omega.{arith}
 use Rattle.writing.proofs.Sizes.{slots_small}
 use Rattle.writing.proofs.Writes.{then}

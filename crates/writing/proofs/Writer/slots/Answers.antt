@@ -1,3 +1,4 @@
+-- `slots` meets its contract: each line is written where the one before ends, from its own part of the log. Assumes nothing.
 use mathlib.Core.Path.{◌≡◌}
 use Prim.Native.Nat.{◌+◌, ◌-◌, ◌*◌}
 use native.Mathlib.Numerals.{add-one}

@@ -1,3 +1,4 @@
+-- `spare` meets its contract: no spare is written as one of 0 and 0. Assumes nothing.
 use Rattle.writing.proofs.Writes.{then_digits, spare_fields}
 use Rattle.writing.proofs.Writer.spare.Goals as goal
 
