@@ -78,3 +78,6 @@ pub end_small : (end : Result Unit Refusal) → length (end_line end) ≤ 7
 unfolding end_line
 end_small (Ok tt) = omega arith
 end_small (Err r) = let seven = length_refusal r in omega arith
+
+-- What the bounds on a writer's place need.
+pub ruleset sizes = (length-take, length_digits, length_field, length_spare, places_few, slots_small)

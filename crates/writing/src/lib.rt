@@ -38,7 +38,7 @@ impl<'a> Writer<'a> {
     }
 
     // Writes a byte's two digits.
-    #[tactic(auto, using(digits::proofs::Digits::length_digits))]
+    #[tactic(auto, using(crate::proofs::Sizes::sizes))]
     fn byte(&mut self, byte: u8)
         requires { self.old.at < 2 ^ 36 }
         ensures { Writes self.old self.new (digits_of (byte ∷ [])) }
@@ -48,7 +48,7 @@ impl<'a> Writer<'a> {
     }
 
     // Writes a value in `width` bytes.
-    #[tactic(auto, using(digits::proofs::Digits::length_digits, digits::proofs::Fields::length_field))]
+    #[tactic(auto, using(crate::proofs::Sizes::sizes))]
     fn field(&mut self, width: u8, value: u32)
         requires { self.old.at < 2 ^ 36 }
         ensures { Writes self.old self.new (digits_of (field width value)) }
@@ -69,7 +69,7 @@ impl<'a> Writer<'a> {
     }
 
     // Writes the line of a refusal, by its number and place.
-    #[tactic(auto, unfolding(digits::specs::Digits::digits_of, digits::specs::Fields::field))]
+    #[tactic(auto, using(crate::proofs::Sizes::sizes))]
     fn refusal(&mut self, number: u32, place: u32)
         requires { self.old.at < 2 ^ 35 }
         ensures { Writes self.old self.new (refusal_by number place) }
@@ -90,7 +90,7 @@ impl<'a> Writer<'a> {
     }
 
     // Writes the spare's two fields: 0 and 0 if there is none.
-    #[tactic(auto, unfolding(digits::specs::Digits::digits_of, digits::specs::Fields::field))]
+    #[tactic(auto, using(crate::proofs::Sizes::sizes))]
     fn spare(&mut self, spare: Option<Weight>)
         requires { self.old.at < 2 ^ 35 }
         ensures { Writes self.old self.new (digits_of (spare_bytes spare)) }
@@ -101,7 +101,7 @@ impl<'a> Writer<'a> {
     }
 
     // Writes the line of an accepted set.
-    #[tactic(auto, unfolding(digits::specs::Digits::digits_of, digits::specs::Fields::field), using(digits::proofs::Digits::length_digits, crate::proofs::Sizes::length_spare))]
+    #[tactic(auto, using(crate::proofs::Sizes::sizes))]
     fn accepted(&mut self, accepted: Accepted)
         requires { self.old.at < 2 ^ 34 }
         ensures { Writes self.old self.new (accepted_line accepted) }
@@ -114,7 +114,7 @@ impl<'a> Writer<'a> {
     }
 
     // Writes bytes as they are.
-    #[tactic(auto, using(digits::proofs::Digits::length_digits))]
+    #[tactic(auto, using(crate::proofs::Sizes::sizes))]
     fn bytes(&mut self, bytes: &[u8])
         requires { (self.old.at < 2 ^ 35) × (length bytes.now ≤ 64) }
         ensures { Writes self.old self.new (digits_of bytes.now) }
@@ -125,7 +125,7 @@ impl<'a> Writer<'a> {
     }
 
     // Writes the line of a listing.
-    #[tactic(auto, unfolding(digits::specs::Digits::digits_of, digits::specs::Fields::field), using(digits::proofs::Digits::length_digits))]
+    #[tactic(auto, using(crate::proofs::Sizes::sizes))]
     fn listing(&mut self, t: u32, bytes: &[u8])
         requires { (self.old.at < 2 ^ 34) × (length bytes.now ≤ 64) }
         ensures { Writes self.old self.new (listing_line t bytes.now) }
@@ -137,7 +137,7 @@ impl<'a> Writer<'a> {
     }
 
     // Writes the places of the tasks that ran, rising.
-    #[tactic(auto, using(digits::proofs::Digits::length_digits, crate::proofs::Sizes::places_few))]
+    #[tactic(auto, using(crate::proofs::Sizes::sizes))]
     fn places(&mut self, bytes: &[u8])
         requires { (self.old.at < 2 ^ 35) × (length bytes.now ≤ 64) }
         ensures { Writes self.old self.new (digits_of (places_from 0 bytes.now)) }
@@ -150,7 +150,7 @@ impl<'a> Writer<'a> {
     }
 
     // Writes the line of one slot.
-    #[tactic(auto, unfolding(digits::specs::Digits::digits_of, digits::specs::Fields::field), using(digits::proofs::Digits::length_digits, crate::proofs::Sizes::places_few))]
+    #[tactic(auto, using(crate::proofs::Sizes::sizes))]
     fn slot(&mut self, t: u32, bytes: &[u8])
         requires { (self.old.at < 2 ^ 34) × (length bytes.now ≤ 64) }
         ensures { Writes self.old self.new (slot_line t bytes.now) }
@@ -163,6 +163,7 @@ impl<'a> Writer<'a> {
     }
 
     // Writes the lines of so many slots of n tasks from time t on.
+    #[tactic(auto, using(crate::proofs::Sizes::sizes))]
     fn slots(&mut self, slots: u32, n: usize, t: u32, log: &[u8])
         requires room { self.old.at < 2 ^ 33 }
         requires limits { (slots ≤ 1024) × (n ≤ 64) × (slots * n ≤ length log.now) × (t + slots ≤ 4294967295) }
@@ -188,6 +189,7 @@ impl<'a> Writer<'a> {
     }
 
     // Writes the lines of a run: those of its slots, and that of its end.
+    #[tactic(auto, using(crate::proofs::Sizes::sizes))]
     fn run(&mut self, slots: u32, n: usize, t: u32, log: &[u8], end: Result<(), Refusal>)
         requires room { self.old.at < 2 ^ 33 }
         requires limits { (slots ≤ 1024) × (n ≤ 64) × (slots * n ≤ length log.now) × (t + slots ≤ 4294967295) }
@@ -275,7 +277,7 @@ fn run_fits(slots: u32, n: usize, t: u32, size: usize) -> bool
 
 // Writes the lines of so many slots of n tasks from time t on, and then that of the refusal that stopped the run, if one did; answers
 // their length. Where the run does not fit nothing is written.
-#[tactic(auto, unfolding(crate::specs::AnswerLines::run_text))]
+#[tactic(auto, unfolding(crate::specs::AnswerLines::run_text), using(crate::proofs::Texts::within_room))]
 pub fn put_run(
     out: &mut [u8],
     slots: u32,

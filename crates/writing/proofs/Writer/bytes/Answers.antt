@@ -11,8 +11,5 @@ pub loop-byte-init : goal.loop-byte-init
 unfolding digits_of
 loop-byte-init c = none _
 
-pub byte-requires : goal.byte-requires
-byte-requires c = let at = simp (length_digits, length-take) at c.loop-byte.invariant.at in omega arith
-
 pub loop-byte-preserved : goal.loop-byte-preserved
 loop-byte-preserved c = rw (take_more c.args.bytes.now c.loop-byte.byte-index 0 (omega arith)) (then_digits _ _ c.loop-byte.invariant c.byte.ensures)

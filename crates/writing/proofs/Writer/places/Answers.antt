@@ -15,12 +15,6 @@ pub loop-task-init : goal.loop-task-init
 unfolding digits_of places_from
 loop-task-init c = none _
 
-pub byte-requires : goal.byte-requires
-byte-requires c =
-    let at = simp length_digits at c.loop-task.invariant.at in
-    let few = simp length-take at (places_few 0 (take c.loop-task.task c.args.bytes.now)) in
-    omega arith
-
 pub loop-task-preserved : goal.loop-task-preserved
 loop-task-preserved c =
     let more = places_more c.args.bytes.now c.loop-task.task (omega arith) in

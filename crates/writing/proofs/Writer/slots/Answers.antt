@@ -13,12 +13,6 @@ pub loop-slot-init : goal.loop-slot-init
 unfolding slot_lines
 loop-slot-init c = none _
 
-pub slot-requires : goal.slot-requires
-slot-requires c =
-    let from = c.loop-slot.slot * c.args.n in
-    let whole : from + c.args.n - from ≡ c.args.n = omega arith in
-    (omega (arith, slots_small c.loop-slot.slot c.args.n c.args.t c.args.log.now c.requires.limits.1), simp (whole, length-take) (omega arith))
-
 pub loop-slot-preserved : goal.loop-slot-preserved
 loop-slot-preserved c =
     let from = c.loop-slot.slot * c.args.n in
