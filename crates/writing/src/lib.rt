@@ -26,6 +26,7 @@ struct Writer<'a> {
     at: usize,
 }
 
+#[tactic(auto, using(crate::proofs::Sizes::sizes))]
 impl<'a> Writer<'a> {
     ghost use Rattle.writing.specs.Writing.{Writes};
 
@@ -38,7 +39,6 @@ impl<'a> Writer<'a> {
     }
 
     // Writes a byte's two digits.
-    #[tactic(auto, using(crate::proofs::Sizes::sizes))]
     fn byte(&mut self, byte: u8)
         requires { self.old.at < 2 ^ 36 }
         ensures { Writes self.old self.new (digits_of (byte ∷ [])) }
@@ -48,7 +48,6 @@ impl<'a> Writer<'a> {
     }
 
     // Writes a value in `width` bytes.
-    #[tactic(auto, using(crate::proofs::Sizes::sizes))]
     fn field(&mut self, width: u8, value: u32)
         requires { self.old.at < 2 ^ 36 }
         ensures { Writes self.old self.new (digits_of (field width value)) }
@@ -69,7 +68,6 @@ impl<'a> Writer<'a> {
     }
 
     // Writes the line of a refusal, by its number and place.
-    #[tactic(auto, using(crate::proofs::Sizes::sizes))]
     fn refusal(&mut self, number: u32, place: u32)
         requires { self.old.at < 2 ^ 35 }
         ensures { Writes self.old self.new (refusal_by number place) }
@@ -90,7 +88,6 @@ impl<'a> Writer<'a> {
     }
 
     // Writes the spare's two fields: 0 and 0 if there is none.
-    #[tactic(auto, using(crate::proofs::Sizes::sizes))]
     fn spare(&mut self, spare: Option<Weight>)
         requires { self.old.at < 2 ^ 35 }
         ensures { Writes self.old self.new (digits_of (spare_bytes spare)) }
@@ -101,7 +98,6 @@ impl<'a> Writer<'a> {
     }
 
     // Writes the line of an accepted set.
-    #[tactic(auto, using(crate::proofs::Sizes::sizes))]
     fn accepted(&mut self, accepted: Accepted)
         requires { self.old.at < 2 ^ 34 }
         ensures { Writes self.old self.new (accepted_line accepted) }
@@ -114,7 +110,6 @@ impl<'a> Writer<'a> {
     }
 
     // Writes bytes as they are.
-    #[tactic(auto, using(crate::proofs::Sizes::sizes))]
     fn bytes(&mut self, bytes: &[u8])
         requires { (self.old.at < 2 ^ 35) × (length bytes.now ≤ 64) }
         ensures { Writes self.old self.new (digits_of bytes.now) }
@@ -125,7 +120,6 @@ impl<'a> Writer<'a> {
     }
 
     // Writes the line of a listing.
-    #[tactic(auto, using(crate::proofs::Sizes::sizes))]
     fn listing(&mut self, t: u32, bytes: &[u8])
         requires { (self.old.at < 2 ^ 34) × (length bytes.now ≤ 64) }
         ensures { Writes self.old self.new (listing_line t bytes.now) }
@@ -137,7 +131,6 @@ impl<'a> Writer<'a> {
     }
 
     // Writes the places of the tasks that ran, rising.
-    #[tactic(auto, using(crate::proofs::Sizes::sizes))]
     fn places(&mut self, bytes: &[u8])
         requires { (self.old.at < 2 ^ 35) × (length bytes.now ≤ 64) }
         ensures { Writes self.old self.new (digits_of (places_from 0 bytes.now)) }
@@ -150,7 +143,6 @@ impl<'a> Writer<'a> {
     }
 
     // Writes the line of one slot.
-    #[tactic(auto, using(crate::proofs::Sizes::sizes))]
     fn slot(&mut self, t: u32, bytes: &[u8])
         requires { (self.old.at < 2 ^ 34) × (length bytes.now ≤ 64) }
         ensures { Writes self.old self.new (slot_line t bytes.now) }
@@ -163,7 +155,6 @@ impl<'a> Writer<'a> {
     }
 
     // Writes the lines of so many slots of n tasks from time t on.
-    #[tactic(auto, using(crate::proofs::Sizes::sizes))]
     fn slots(&mut self, slots: u32, n: usize, t: u32, log: &[u8])
         requires room { self.old.at < 2 ^ 33 }
         requires limits { (slots ≤ 1024) × (n ≤ 64) × (slots * n ≤ length log.now) × (t + slots ≤ 4294967295) }
@@ -189,7 +180,6 @@ impl<'a> Writer<'a> {
     }
 
     // Writes the lines of a run: those of its slots, and that of its end.
-    #[tactic(auto, using(crate::proofs::Sizes::sizes))]
     fn run(&mut self, slots: u32, n: usize, t: u32, log: &[u8], end: Result<(), Refusal>)
         requires room { self.old.at < 2 ^ 33 }
         requires limits { (slots ≤ 1024) × (n ≤ 64) × (slots * n ≤ length log.now) × (t + slots ≤ 4294967295) }
