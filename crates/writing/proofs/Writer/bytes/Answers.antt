@@ -1,9 +1,7 @@
 -- `bytes` meets its contract: each byte's digits are written where those before end. Assumes nothing.
 use native.Mathlib.Omega.{arith}
-use lib.ListN.{length-take}
 use Rattle.std.proofs.lemmas.List.{take_more}
 use Rattle.digits.specs.Digits.{digits_of}
-use Rattle.digits.proofs.Digits.{length_digits}
 use Rattle.writing.proofs.Writes.{none, then_digits}
 use Rattle.writing.proofs.Writer.bytes.Goals as goal
 

@@ -2,11 +2,8 @@
 use mathlib.Core.List.{append-nil}
 use native.Mathlib.Omega.{arith}
 use borrow.Author.Tests.{eq-eqb, ne_eqb}
-use lib.ListN.{length-take, take}
 use Rattle.digits.specs.Digits.{digits_of}
-use Rattle.digits.proofs.Digits.{length_digits}
 use Rattle.writing.specs.AnswerLines.{places_from}
-use Rattle.writing.proofs.Sizes.{places_few}
 use Rattle.writing.proofs.Writes.{none, then_digits, places_more}
 use Rattle.writing.proofs.Writer.places.Goals as goal
 use Rattle.writing.proofs.Writer.places.Goals.{then-byte-eq1, else-byte-eq1}

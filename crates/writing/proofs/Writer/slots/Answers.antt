@@ -1,11 +1,10 @@
 -- `slots` meets its contract: each line is written where the one before ends, from its own part of the log. Assumes nothing.
-use mathlib.Core.Path.{◌≡◌}
+use mathlib.Core.Path.{◌≡◌, ap}
 use Prim.Native.Nat.{◌+◌, ◌-◌, ◌*◌}
 use native.Mathlib.Numerals.{add-one}
 use native.Mathlib.Omega.{arith}
-use lib.ListN.{length-take}
+use lib.ListN.{take, drop}
 use Rattle.writing.specs.AnswerLines.{slot_lines}
-use Rattle.writing.proofs.Sizes.{slots_small}
 use Rattle.writing.proofs.Writes.{none, then, slots_more}
 use Rattle.writing.proofs.Writer.slots.Goals as goal
 
@@ -15,7 +14,9 @@ loop-slot-init c = none _
 
 pub loop-slot-preserved : goal.loop-slot-preserved
 loop-slot-preserved c =
-    let from = c.loop-slot.slot * c.args.n in
-    let whole : from + c.args.n - from ≡ c.args.n = omega arith in
-    let line = rw whole at c.slot.ensures in
-    rw (add-one, slots_more) (then c.loop-slot.invariant line)
+    let n = c.args.n in
+    let from = c.loop-slot.slot * n in
+    let left = drop from c.args.log.now in
+    let whole : from + n - from ≡ n = omega arith in
+    let bytes : take (from + n - from) left ≡ take n left = ap (λ m. take m left) whole in
+    rw (add-one, slots_more, ← bytes) (then c.loop-slot.invariant c.slot.ensures)
