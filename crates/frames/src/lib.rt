@@ -319,8 +319,25 @@ pub fn answer(
         };
     }
     match reading::what_is_asked(line) {
-        Some(Asked::Admit { m, n }) => admitted(kept, requirements, periods, counts, line, m, n, out),
-        Some(Asked::Run { slots }) => answer_run(kept, requirements, periods, counts, log, slots, out),
+        Some(Asked::Admit { m, n }) => admitted(
+            kept,
+            requirements,
+            periods,
+            counts,
+            line,
+            m,
+            n,
+            out,
+        ),
+        Some(Asked::Run { slots }) => answer_run(
+            kept,
+            requirements,
+            periods,
+            counts,
+            log,
+            slots,
+            out,
+        ),
         Some(Asked::List) => Answered {
             kept: kept,
             size: answer_list(kept, requirements, periods, counts, log, out),
