@@ -2,7 +2,7 @@
 // is set out in specs/Answers.antt.
 #![tactic(auto)]
 
-ghost use Rattle.std.specs.Prelude.{◌≡◌};
+ghost use Rattle.std.specs.Prelude.{◌≡◌, not, position, zip};
 ghost use Rattle.rule.specs.Answers.{number_of};
 ghost use Rattle.rule.specs.Limits.{bounded_by, valid};
 
@@ -125,4 +125,14 @@ impl Weight {
     {
         self.bounded(PERIOD_MOST)
     }
+}
+
+// The lowest place whose record is outside the limits that go with `most`.
+pub fn outside_place(requirements: &[u32], periods: &[u32], most: u32) -> Option<usize>
+    ensures { result ≡ position (λ r. not (bounded_by most r.0 r.1)) (zip requirements.now periods.now) }
+{
+    requirements
+        .iter()
+        .zip(periods)
+        .position(|(&e, &p)| !Weight { e, p }.bounded(most))
 }
