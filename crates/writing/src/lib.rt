@@ -84,7 +84,7 @@ impl<'a> Writer<'a> {
         requires { self.old.at < 2 ^ 35 }
         ensures { Writes self.old self.new (refusal_line refusal) }
     {
-        self.refusal(rule::number_of(refusal), place_of(refusal));
+        self.refusal(refusal.number(), place_of(refusal));
     }
 
     // Writes the spare's two fields: 0 and 0 if there is none.
