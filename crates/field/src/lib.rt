@@ -1,7 +1,7 @@
 // The field of an accepted set, laid out once for all its slots.
 #![tactic(auto)]
 
-ghost use Rattle.std.specs.Prelude.{◌≡◌};
+ghost use Rattle.std.specs.Prelude.{◌≡◌, take};
 ghost use Rattle.field.specs.LayOut.{filled_with, lay_out};
 
 use rule::Spare;
@@ -9,9 +9,24 @@ use rule::Spare;
 // The requirements and the periods of the tasks, the spare's after the last, and how many places that makes.
 #[derive(Drop)]
 pub struct Laid {
-    pub requirements: [u32; 65],
-    pub periods: [u32; 65],
-    pub size: usize,
+    requirements: [u32; 65],
+    periods: [u32; 65],
+    size: usize,
+}
+
+// The parts that are laid out. Of a set of more than 65 places, which no admission accepts, it is the first 65.
+impl Laid {
+    pub fn requirements(&self) -> &[u32]
+        ensures { result.now ≡ take self.now.size self.now.requirements }
+    {
+        &self.requirements[..self.size.min(65)]
+    }
+
+    pub fn periods(&self) -> &[u32]
+        ensures { result.now ≡ take self.now.size self.now.periods }
+    {
+        &self.periods[..self.size.min(65)]
+    }
 }
 
 pub fn lay_out(requirements: &[u32], periods: &[u32], spare: Spare) -> Laid
@@ -37,10 +52,7 @@ fn filled(list: &[u32], rest: u32) -> [u32; 65]
     ensures { result ≡ filled_with list.now rest }
 {
     let mut all = [rest; 65];
-    let mut i = 0;
-    while i < 65 && i < list.len() {
-        all[i] = list[i];
-        i += 1;
-    }
+    let n = list.len().min(65);
+    all[..n].copy_from_slice(&list[..n]);
     all
 }
