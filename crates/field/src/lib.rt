@@ -1,8 +1,8 @@
 // The field of an accepted set, laid out once for all its slots.
 #![tactic(auto)]
 
-ghost use Rattle.std.specs.Prelude.{◌≡◌, take};
-ghost use Rattle.field.specs.LayOut.{filled_with, lay_out};
+ghost use Rattle.std.specs.Prelude.{◌≡◌};
+ghost use Rattle.field.specs.LayOut.{filled_with, lay_out, requirements_in, periods_in};
 
 use rule::Spare;
 
@@ -17,13 +17,13 @@ pub struct Laid {
 // The parts that are laid out. Of a set of more than 65 places, which no admission accepts, it is the first 65.
 impl Laid {
     pub fn requirements(&self) -> &[u32]
-        ensures { result.now ≡ take self.now.size self.now.requirements }
+        ensures { result.now ≡ requirements_in self.now }
     {
         &self.requirements[..self.size.min(65)]
     }
 
     pub fn periods(&self) -> &[u32]
-        ensures { result.now ≡ take self.now.size self.now.periods }
+        ensures { result.now ≡ periods_in self.now }
     {
         &self.periods[..self.size.min(65)]
     }
