@@ -3,13 +3,13 @@
 use Rattle.listing.proofs.Accepted.{parts, listing_not_judged, rungs_cover, listing_marked}
 use Rattle.listing.proofs.list_accepted.Goals as goal
 
-pub returns-in-Refused : goal.returns-in-Refused
-returns-in-Refused c =
+pub returns-in-Err : goal.returns-in-Err
+returns-in-Err c =
     let a = c.args in
     let judged = rw (c.requirements.ensures, c.periods.ensures) at c.judge-judged.ensures in
     let r = parts
     (listing_not_judged a.requirements.now a.periods.now a.counts.now a.bytes.now a.m a.t c.requires.same_length.0 c.requires.same_length.1
-    a.accepted c.requires.admitted c.lay_out-laid.result c.lay_out-laid.ensures c.judge-judged.result judged _ c.in-Refused.is) in
+    a.accepted c.requires.admitted c.lay_out-laid.result c.lay_out-laid.ensures c.judge-judged.result judged _ c.in-Err.is) in
     record {
       answer = r.0;
       bytes = r.1;
