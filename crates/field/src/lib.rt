@@ -29,6 +29,7 @@ impl Laid {
     }
 }
 
+#[tactic(auto, unfolding(crate::specs::LayOut::lay_out, rule::specs::Layout::requirement_of, rule::specs::Layout::period_of, rule::specs::Layout::places_of))]
 pub fn lay_out(requirements: &[u32], periods: &[u32], spare: Option<Weight>) -> Laid
     ensures { result ≡ lay_out requirements.now periods.now spare }
 {
