@@ -53,10 +53,13 @@ fn list_accepted(
 {
     let spare = accepted.spare;
     let laid = field::lay_out(requirements, periods, spare);
-    let size = laid.size;
-    let es = laid.requirements;
-    let ps = laid.periods;
-    let judged = standing::judge(accepted.units, &es[..size], &ps[..size], counts, t);
+    let judged = standing::judge(
+        accepted.units,
+        laid.requirements(),
+        laid.periods(),
+        counts,
+        t,
+    );
     let outcome = judged.outcome;
     if let Err(refusal) = outcome {
         return Err(refusal);

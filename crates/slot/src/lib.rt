@@ -332,10 +332,14 @@ fn deal_accepted(
 {
     let spare = accepted.spare;
     let laid = field::lay_out(requirements, periods, spare);
-    let size = laid.size;
-    let es = laid.requirements;
-    let ps = laid.periods;
-    deal(accepted.units, &es[..size], &ps[..size], counts, bytes, t)
+    deal(
+        accepted.units,
+        laid.requirements(),
+        laid.periods(),
+        counts,
+        bytes,
+        t,
+    )
 }
 
 // One slot of a set on m units at time t: refusals 1 to 9, or the choice in the counts and in a byte for each task.
