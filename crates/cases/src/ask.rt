@@ -1,7 +1,10 @@
 // A case for each entry: a line for what is asked, and a line for the answer.
 ghost use Rattle.std.specs.Prelude.{◌*◌, ◌^◌, ◌<◌};
 
-use crate::show::{self, Admitted, Answer, Choice, Compared, Dealt, Fraction, Marks, Numbers, Refused, Set, Standing, Units};
+use crate::show::{
+    self, Admitted, Answer, Choice, Compared, Dealt, Fraction, Marks, Numbers, Refused, Set,
+    Standing, Units,
+};
 
 // Admission of a set.
 pub fn admission(rt: &impl Print, set: Set<'_>) {
@@ -14,7 +17,14 @@ pub fn alike<const N: usize>(rt: &impl Print, task: Fraction, m: u32)
     requires fits_in_memory { 4 * N < 2 ^ 63 }
 {
     show::line(rt, format_args!("{N} tasks of {task} on {}", Units(m)));
-    admitted(rt, Set { requirements: &[task.e; N], periods: &[task.p; N], m });
+    admitted(
+        rt,
+        Set {
+            requirements: &[task.e; N],
+            periods: &[task.p; N],
+            m,
+        },
+    );
 }
 
 fn admitted(rt: &impl Print, set: Set<'_>) {
@@ -30,20 +40,40 @@ pub fn comparison(rt: &impl Print, one: Fraction, other: Fraction, t: u32) {
 }
 
 // One slot.
-pub fn slot<const N: usize>(rt: &impl Print, set: Set<'_>, counts: &mut [u32; N], t: u32) {
-    show::line(rt, Standing { set, t, counts });
+pub fn slot<const N: usize>(rt: &impl Print, set: Set<'_>, mut counts: [u32; N], t: u32) {
+    show::line(
+        rt,
+        Standing {
+            set,
+            t,
+            counts: &counts,
+        },
+    );
+    let Set {
+        requirements,
+        periods,
+        m,
+    } = set;
     let mut bytes = [0; N];
-    let slot = slot::slot(set.requirements, set.periods, counts, &mut bytes, set.m, t);
-    let choice = Choice { bytes: &bytes, m: set.m };
-    let dealt = Dealt { choice, counts };
+    let slot = slot::slot(requirements, periods, &mut counts, &mut bytes, m, t);
+    let dealt = Dealt {
+        choice: Choice { bytes: &bytes, m },
+        counts: &counts,
+    };
     show::reply(rt, Answer(slot.map(|()| dealt)));
 }
 
 // A run from time t on.
 pub fn run(rt: &impl Print, slots: u32, set: Set<'_>, counts: &mut [u32], log: &mut [u8], t: u32) {
-    show::line(rt, format_args!("{slots} slots of {}", Standing { set, t, counts }));
+    show::line(
+        rt,
+        format_args!("{slots} slots of {}", Standing { set, t, counts }),
+    );
     let ran = run::run(slots, set.requirements, set.periods, counts, log, set.m, t);
-    show::reply(rt, format_args!("done: {} slots, counts now{}", ran.done, Numbers(counts)));
+    show::reply(
+        rt,
+        format_args!("done: {} slots, counts now{}", ran.done, Numbers(counts)),
+    );
     if let Err(refusal) = ran.end {
         show::reply(rt, Refused(refusal));
     }

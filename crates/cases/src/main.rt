@@ -35,7 +35,14 @@ fn main(rt: HostRuntime) {
 fn multiples(rt: &impl Print) {
     show::line(rt, "The limit of L");
     for periods in [[65535, 16], [65535, 32], [31775, 33], [17, 61681]] {
-        ask::admission(rt, Set { requirements: &[1, 1], periods: &periods, m: 1 });
+        ask::admission(
+            rt,
+            Set {
+                requirements: &[1, 1],
+                periods: &periods,
+                m: 1,
+            },
+        );
     }
 }
 
@@ -70,8 +77,8 @@ fn comparisons(rt: &impl Print) {
 // One slot at the last time and one later, and a run that comes past it.
 fn last_slots(rt: &impl Print) {
     show::line(rt, "\nThe last time");
-    ask::slot(rt, TURNS, &mut [8388608, 8388607], 16777215);
-    ask::slot(rt, TURNS, &mut [8388608; 2], 16777216);
+    ask::slot(rt, TURNS, [8388608, 8388607], 16777215);
+    ask::slot(rt, TURNS, [8388608; 2], 16777216);
     ask::run(rt, 4, TURNS, &mut [8388607; 2], &mut [0; 8], 16777214);
 }
 

@@ -127,10 +127,16 @@ impl fmt::Display for Reason {
             Refusal::Units => write!(f, "no units, or more than {}", rule::UNITS_MOST),
             Refusal::Record { place } => write!(f, "a record is outside its limits, place {place}"),
             Refusal::Multiple => write!(f, "L is above its limit of {}", rule::MULTIPLE_MOST),
-            Refusal::Load { excess } => write!(f, "the load is above what the units give, by {excess}"),
+            Refusal::Load { excess } => write!(
+                f,
+                "the load is above what the units give, by {excess}"
+            ),
             Refusal::Time => write!(f, "the time is above its limit of {}", rule::TIME_MOST),
             Refusal::Lag { place } => {
-                write!(f, "a lag is out of bounds, or the counts do not add up, place {place}")
+                write!(
+                    f,
+                    "a lag is out of bounds, or the counts do not add up, place {place}"
+                )
             }
             Refusal::Stuck => write!(f, "too many are urgent, or too few are not tnegru"),
             Refusal::Slots => write!(f, "the run has more slots than {}", rule::SLOTS_MOST),
@@ -144,7 +150,11 @@ pub struct Admitted(pub Accepted);
 
 impl fmt::Display for Admitted {
     fn fmt<W: fmt::Write>(&self, f: &mut fmt::Formatter<W>) -> fmt::Result {
-        let Accepted { units, multiple, spare } = self.0;
+        let Accepted {
+            units,
+            multiple,
+            spare,
+        } = self.0;
         write!(f, "accepted: M {units}, L {multiple}, ")?;
         match spare {
             None => write!(f, "no spare"),
