@@ -1,17 +1,6 @@
 use mathlib.Core.Path.{sym, ◌∙◌}
-use Prim.Native.Nat.{◌<◌}
-use native.Mathlib.Nat.{mod-lt}
-use native.Mathlib.Omega.{arith}
 use Rattle.numbers.proofs.Euclid.{gcd_is_gcd, gcd_step, gcd_zero}
 use Rattle.numbers.proofs.+gcd.Goals as goal
-
-pub nonzero_rem-a : goal.nonzero_rem-a
-nonzero_rem-a t c = omega (arith, c.if-b-eq0.false)
-
-pub gcd-requires : goal.gcd-requires
-gcd-requires t c = let p : 0 < c.args.b = omega (arith, c.if-b-eq0.false) in
-    let m = mod-lt c.args.a p in
-    (omega arith, tt)
 
 pub returns-then-b-eq0 : goal.returns-then-b-eq0
 returns-then-b-eq0 t c = let s = c.args in
