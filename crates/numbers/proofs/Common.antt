@@ -26,7 +26,7 @@ right_divides_lcm a b = dvd-mul_left b (a / gcd a b)
 lcm_times_gcd : (a b : ℕ) → lcm a b * gcd a b ≡ a * b
 unfolding lcm
 lcm_times_gcd a b =
-    mul_right_comm (a / gcd a b) b (gcd a b) ∙ ap (λ x. x * b) (div-mul_cancel (gcd a b) (gcd_is_gcd a b).left)
+    mul_right_comm (a / gcd a b) b (gcd a b) ∙ ap (λ x. x * b) (div-mul_cancel (gcd a b) (gcd_is_gcd a b).0)
 
 lcm_divides : (a b m : ℕ) → a ∣ m → b ∣ m → lcm a b ∣ m
 lcm_divides a b m p q = ⊎_elim none some (eq-zero-or-pos (gcd a b))
@@ -34,7 +34,7 @@ lcm_divides a b m p q = ⊎_elim none some (eq-zero-or-pos (gcd a b))
     -- The divisor is 0 only where both numbers are, and then so is every common multiple.
     none : gcd a b ≡ 0 → lcm a b ∣ m
     none e =
-        let a-zero : a ≡ 0 = eq-zero_of_zero-dvd (rw e at (gcd_is_gcd a b).left) in
+        let a-zero : a ≡ 0 = eq-zero_of_zero-dvd (rw e at (gcd_is_gcd a b).0) in
         let m-zero : m ≡ 0 = eq-zero_of_zero-dvd (rw a-zero at p) in
         rw m-zero (dvd-zero (lcm a b))
 

@@ -2,7 +2,8 @@
 #![tactic(auto)]
 
 ghost use Rattle.std.specs.Prelude.{◌≡◌, ◌<◌};
-ghost use Rattle.numbers.specs.Divide.{gcd as gcd_of, IsGcd, lowest_terms};
+ghost use Rattle.std.specs.Int.{IsGcd};
+ghost use Rattle.numbers.specs.Divide.{gcd as gcd_of, lowest_terms};
 ghost use Rattle.numbers.specs.Multiple.{lcm, lcm_all, within};
 
 // A fraction, above over below.
