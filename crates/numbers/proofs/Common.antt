@@ -73,11 +73,6 @@ lcm_all_pos [] all = omega arith
 lcm_all_pos (p ∷ ps) all =
     mul-pos (lowest_above_pos p (lcm_all ps) (all 0 (omega arith))) (lcm_all_pos ps (λ i h. all (suc i) (suc-le-suc h)))
 
-pub each_le_lcm_all : (ps : List ℕ)
-    → ((i : ℕ) → i < length ps → 0 < get_or ps i 0)
-    → (i : ℕ) → i < length ps → get_or ps i 0 ≤ lcm_all ps
-each_le_lcm_all ps all i h = le_of_dvd (lcm_all_pos ps all) (each_divides_lcm_all ps i h)
-
 rest_divides_lcm_all : (ps : List ℕ) (i : ℕ) → lcm_all (drop i ps) ∣ lcm_all ps
 unfolding lcm_all
 rest_divides_lcm_all ps zero = dvd_refl (lcm_all ps)
