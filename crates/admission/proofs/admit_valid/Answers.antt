@@ -2,7 +2,7 @@
 use native.Mathlib.Nat.{mul-le-mul}
 use native.Mathlib.Omega.{arith}
 use Rattle.rule.proofs.Sets.{multiple_pos}
-use Rattle.admission.proofs.Laws.{multiple_told, above_told, multiple_refused, load_refused, set_accepted}
+use Rattle.admission.proofs.Laws.{multiple_told, none_told, multiple_refused, load_refused, set_accepted}
 use Rattle.admission.proofs.admit_valid.Goals as goal
 
 pub returns-in_default : goal.returns-in_default
@@ -10,12 +10,12 @@ returns-in_default c =
     let s = c.args in
     let l = c.least_multiple in
     let ps = s.periods.now in
-    multiple_refused s.requirements.now ps s.m (above_told ps l.result l.ensures c.in_default.is)
+    multiple_refused s.requirements.now ps s.m (none_told ps l.result l.ensures c.in_default.is)
 
 pub load_of-load-requires : goal.load_of-load-requires
 load_of-load-requires c =
     let l = c.least_multiple in
-    let told = multiple_told c.args.periods.now l.result l.ensures c.in-At.multiple c.in-At.is in
+    let told = multiple_told c.args.periods.now l.result l.ensures c.in-Some.multiple c.in-Some.is in
     record {
       valid_set = c.requires.valid_set;
       multiple_value = told.0;
@@ -25,7 +25,7 @@ load_of-load-requires c =
 pub overflow_mul-given : goal.overflow_mul-given
 overflow_mul-given c =
     let l = c.least_multiple in
-    let told = multiple_told c.args.periods.now l.result l.ensures c.in-At.multiple c.in-At.is in
+    let told = multiple_told c.args.periods.now l.result l.ensures c.in-Some.multiple c.in-Some.is in
     omega (arith, mul-le-mul c.requires.m_le_units_most told.1)
 
 pub returns-then-load-given : goal.returns-then-load-given
@@ -35,14 +35,14 @@ returns-then-load-given c =
     let k = c.load_of-load in
     let es = s.requirements.now in
     let ps = s.periods.now in
-    let told = multiple_told ps l.result l.ensures c.in-At.multiple c.in-At.is in
-    load_refused es ps s.m c.in-At.multiple k.result told.0 k.ensures told.1 (omega arith)
+    let told = multiple_told ps l.result l.ensures c.in-Some.multiple c.in-Some.is in
+    load_refused es ps s.m c.in-Some.multiple k.result told.0 k.ensures told.1 (omega arith)
 
 pub accept-requires : goal.accept-requires
 accept-requires c =
     let l = c.least_multiple in
     let ps = c.args.periods.now in
-    let told = multiple_told ps l.result l.ensures c.in-At.multiple c.in-At.is in
+    let told = multiple_told ps l.result l.ensures c.in-Some.multiple c.in-Some.is in
     let positive = multiple_pos c.args.requirements.now ps c.requires.valid_set in
     record {
       multiple_nonzero = omega arith;
@@ -57,5 +57,5 @@ returns c =
     let k = c.load_of-load in
     let es = s.requirements.now in
     let ps = s.periods.now in
-    let told = multiple_told ps l.result l.ensures c.in-At.multiple c.in-At.is in
-    rw c.accept.ensures (set_accepted es ps s.m c.in-At.multiple k.result told.0 k.ensures told.1 (omega arith))
+    let told = multiple_told ps l.result l.ensures c.in-Some.multiple c.in-Some.is in
+    rw c.accept.ensures (set_accepted es ps s.m c.in-Some.multiple k.result told.0 k.ensures told.1 (omega arith))
