@@ -1,5 +1,5 @@
 -- Fields: as many bytes as the width says, each below 256, and past the fourth every byte of a number of 32 bits is 0. Assumes nothing.
-use mathlib.Core.Path.{◌≡◌, refl, ap, ◌∙◌}
+use mathlib.Core.Path.{◌≡◌, refl, sym, ap, ◌∙◌}
 use mathlib.Core.List.{List, [], ◌∷◌}
 use Prim.Native.Nat.{ℕ, zero, suc, ◌+◌, ◌*◌, ◌/◌, ◌%◌, ◌^◌, ◌<◌, ◌≤◌}
 use native.Mathlib.Nat.{div-eq_of_lt, pow-le-pow_right}
@@ -7,6 +7,8 @@ use native.Mathlib.Numerals.{add-one}
 use native.Mathlib.Omega.{arith}
 use lib.ListN.{length}
 use lib.Seq.{sets}
+use Rattle.std.specs.Prelude.{slice_get, unwrap_or}
+use Rattle.std.specs.Int.{w32, to_le_bytes}
 use Rattle.rule.specs.Places.{at}
 use Rattle.digits.specs.Digits.{bytes_of, digits_of}
 use Rattle.digits.specs.Fields.{field_at, field}
@@ -23,10 +25,18 @@ field_below zero v i = omega arith
 field_below (suc w) v zero = omega arith
 field_below (suc w) v (suc i) = field_below w v i
 
-pub past_fourth : (v w : ℕ) → v < 2 ^ 32 → 4 ≤ w → v / 256 ^ w % 256 ≡ 0
+past_fourth : (v w : ℕ) → v < 2 ^ 32 → 4 ≤ w → v / 256 ^ w % 256 ≡ 0
 past_fourth v w h m =
     let wide : 256 ^ 4 ≤ 256 ^ w = pow-le-pow_right (omega arith) m in
     rw (div-eq_of_lt {n = v} {m = 256 ^ w} (omega arith))
+
+-- Of the four bytes with the lowest first, the one at place w has w bytes after it.
+pub byte_after : (v w : ℕ) → v < 2 ^ 32 → unwrap_or (slice_get (to_le_bytes w32 v) w) 0 ≡ v / 256 ^ w % 256
+byte_after v zero h = omega arith
+byte_after v (suc zero) h = refl
+byte_after v (suc (suc zero)) h = refl
+byte_after v (suc (suc (suc zero))) h = refl
+byte_after v (suc (suc (suc (suc w)))) h = sym (past_fourth v (suc (suc (suc (suc w)))) h (omega arith))
 
 -- The first byte of a field is stored, and then the others two places on.
 pub field_stored : (l : List ℕ) (i w v : ℕ)

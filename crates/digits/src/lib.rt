@@ -14,27 +14,14 @@ const TEN_BELOW_A: u8 = 0x37;
 pub fn all_digits(line: &[u8]) -> bool
     ensures { result ≡ all_digits line.now }
 {
-    let mut i = 0;
-    while i < line.len() {
-        if !is_digit(line[i]) {
-            return false;
-        }
-        i += 1;
-    }
-    true
+    line.iter().all(|&c| is_digit(c))
 }
 
 // 0 to 9 and A to F: no lower case.
 fn is_digit(c: u8) -> bool
     ensures { result ≡ is_digit c }
 {
-    if c <= b'9' {
-        return c >= b'0';
-    }
-    if c < b'A' {
-        return false;
-    }
-    c <= b'F'
+    matches!(c, b'0'..=b'9' | b'A'..=b'F')
 }
 
 // The byte at place i that a line's digits stand for; 0 past the last. Of other characters it is some number, of no use.
@@ -54,13 +41,11 @@ fn digit_value(c: u8) -> u32
     ensures value { result ≡ digit_value c }
     ensures small { result ≤ 200 }
 {
-    if c < b'0' {
-        return 0;
-    }
-    if c <= b'9' {
-        return (c - b'0') as u32;
-    }
-    (c - TEN_BELOW_A) as u32
+    u32::from(if c <= b'9' {
+        c.saturating_sub(b'0')
+    } else {
+        c - TEN_BELOW_A
+    })
 }
 
 // The number in two bytes from place i on.
@@ -118,11 +103,5 @@ pub fn put_field(out: &mut [u8], at: usize, width: u8, value: u32)
 fn byte_of(value: u32, after: u8) -> u8
     ensures { result ≡ value / 256 ^ after % 256 }
 {
-    match after {
-        0 => (value % 256) as u8,
-        1 => (value / 0x100 % 256) as u8,
-        2 => (value / 0x10000 % 256) as u8,
-        3 => (value / 0x1000000) as u8,
-        _ => 0,
-    }
+    value.to_le_bytes().get(usize::from(after)).copied().unwrap_or(0)
 }
