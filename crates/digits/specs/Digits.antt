@@ -1,5 +1,5 @@
 -- Document 01, "Frames": "lines of hexadecimal, capitals".
-use Rattle.std.specs.Prelude.{Bool, true, cond, ◌&&◌, ◌||◌, List, [], ◌∷◌, ℕ, ◌+◌, ◌-◌, ◌*◌, ◌/◌, ◌%◌, ltb, leb}
+use Rattle.std.specs.Prelude.{Bool, cond, ◌||◌, List, [], ◌∷◌, ℕ, ◌+◌, ◌-◌, ◌*◌, ◌/◌, ◌%◌, ltb, leb}
 use Rattle.std.specs.List.{list_all}
 use Rattle.rule.specs.Limits.{within}
 

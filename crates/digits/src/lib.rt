@@ -29,11 +29,11 @@ pub fn byte_at(line: &[u8], i: usize) -> u32
     ensures value { result ≡ at (bytes_of line.now) i }
     ensures small { result ≤ 3400 }
 {
-    // Half the length first, since 2 * i may be no usize.
-    if i >= line.len() / 2 {
+    let (pairs, _) = line.as_chunks::<2>();
+    let Some(&[high, low]) = pairs.get(i) else {
         return 0;
-    }
-    digit_value(line[2 * i]) * 16 + digit_value(line[2 * i + 1])
+    };
+    digit_value(high) * 16 + digit_value(low)
 }
 
 // What a digit counts, and what its definition gives for any other byte.
@@ -63,6 +63,7 @@ pub fn pair_at(line: &[u8], i: usize) -> u32
 pub fn put_byte(out: &mut [u8], at: usize, byte: u8)
     ensures { out.new ≡ sets out.old at (digits_of (byte ∷ [])) }
 {
+    // By index, since of a slice that `get_mut` wrote to a proof knows the length alone.
     let n = out.len();
     if at >= n {
         return;
@@ -91,10 +92,8 @@ pub fn put_field(out: &mut [u8], at: usize, width: u8, value: u32)
         return;
     }
     let mut place = at;
-    let mut left = width;
-    while left > 0 {
-        left -= 1;
-        put_byte(out, place, byte_of(value, left));
+    for after in (0..width).rev() {
+        put_byte(out, place, byte_of(value, after));
         place += 2;
     }
 }
@@ -103,5 +102,9 @@ pub fn put_field(out: &mut [u8], at: usize, width: u8, value: u32)
 fn byte_of(value: u32, after: u8) -> u8
     ensures { result ≡ value / 256 ^ after % 256 }
 {
-    value.to_le_bytes().get(usize::from(after)).copied().unwrap_or(0)
+    value
+        .to_le_bytes()
+        .get(usize::from(after))
+        .copied()
+        .unwrap_or(0)
 }
