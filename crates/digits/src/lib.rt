@@ -41,11 +41,12 @@ fn digit_value(c: u8) -> u32
     ensures value { result ≡ digit_value c }
     ensures small { result ≤ 200 }
 {
-    u32::from(if c <= b'9' {
+    let counts = if c <= b'9' {
         c.saturating_sub(b'0')
     } else {
         c - TEN_BELOW_A
-    })
+    };
+    u32::from(counts)
 }
 
 // The number in two bytes from place i on.
