@@ -1,5 +1,6 @@
 // A case for each entry: a line for what is asked, and a line for the answer.
 use crate::show;
+use rule::Weight;
 
 // Admission of a set.
 pub fn admission(rt: &impl Print, requirements: &[u32], periods: &[u32], m: u32) {
@@ -19,7 +20,7 @@ pub fn comparison(rt: &impl Print, e: u32, p: u32, e2: u32, p2: u32, t: u32) {
     show::text(rt, b" against ");
     show::fraction(rt, e2, p2);
     show::phrase(rt, b" at time ", t);
-    show::compared(rt, order::compare(e, p, e2, p2, t));
+    show::compared(rt, order::compare(Weight { e, p }, Weight { e: e2, p: p2 }, t));
 }
 
 // One slot.

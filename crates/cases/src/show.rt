@@ -85,7 +85,7 @@ fn numbers(rt: &impl Print, list: &[u32]) {
 // A refusal by its number and in words.
 pub fn refused(rt: &impl Print, refusal: Refusal) {
     answer(rt, b"refused: ");
-    number(rt, rule::number_of(refusal));
+    number(rt, refusal.number());
     text(rt, b", ");
     reason(rt, refusal);
     text(rt, b"\n");

@@ -37,7 +37,7 @@ fn code_of(refusal: Refusal) -> u64
     ensures code { result ≡ code_of refusal }
     ensures room { result < 0x10000000000 }
 {
-    (rule::number_of(refusal) as u64) * 0x100000000 + (amount_of(refusal) as u64)
+    (refusal.number() as u64) * 0x100000000 + (amount_of(refusal) as u64)
 }
 
 // 0 for done.
@@ -154,7 +154,7 @@ pub extern "C" fn door_admit(
 pub extern "C" fn door_compare(e: u32, p: u32, e2: u32, p2: u32, t: u32) -> u64
     ensures { result ≡ comparison_code (comparison e p e2 p2 t) }
 {
-    comparison_code(order::compare(e, p, e2, p2, t))
+    comparison_code(order::compare(Weight { e, p }, Weight { e: e2, p: p2 }, t))
 }
 
 // One slot of a set lent as three lists, with a byte for each task.

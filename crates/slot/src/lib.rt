@@ -10,7 +10,7 @@ ghost use Rattle.rule.specs.Outcomes.{admission, slot as slot_of};
 ghost use Rattle.slot.specs.Rungs.{Choosing, Cut, rungs_within, on_contending, goes_before, rank_to, chosen_by, dealt_rungs};
 ghost use Rattle.slot.specs.Deal.{dealt};
 
-use rule::{Accepted, Order, Refusal};
+use rule::{Accepted, Order, Refusal, Weight};
 
 // The rung of an urgent task.
 const URGENT: u8 = 4;
@@ -37,7 +37,7 @@ fn goes_first(e: u32, p: u32, e2: u32, p2: u32, t: u32, lower: bool) -> bool
             return lower;
         }
     }
-    match order::plain(e, p, e2, p2, t) {
+    match order::plain(Weight { e, p }, Weight { e: e2, p: p2 }, t) {
         Order::First => true,
         Order::Second => false,
         Order::Tie => lower,

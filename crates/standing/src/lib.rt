@@ -12,7 +12,7 @@ ghost use Rattle.standing.specs.Judged.{rung, rungs_of, judged};
 ghost use Rattle.standing.specs.Laid.{is_laid_out, laid_entry, laid_unfair, laid_unfair_place, wild_place};
 ghost use Rattle.standing.specs.Sound.{Small, Sound};
 
-use rule::Refusal;
+use rule::{Refusal, Weight};
 
 // The answer of a judge. A rung is 0 for tnegru, 1 for ahead and not tnegru, 2 for punctual, 3 for behind and not urgent,
 // 4 for urgent.
@@ -85,7 +85,7 @@ fn wild_place(requirements: &[u32], periods: &[u32]) -> usize
     let size = requirements.len();
     let mut i = 0;
     while i < size {
-        if !rule::bounded(rule::MULTIPLE_MOST, requirements[i], periods[i]) {
+        if !(Weight { e: requirements[i], p: periods[i] }).bounded(rule::MULTIPLE_MOST) {
             return i;
         }
         i += 1;

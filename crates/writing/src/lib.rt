@@ -52,7 +52,7 @@ fn put_refusal(out: &mut [u8], at: usize, refusal: Refusal) -> usize
     ensures place { result ≡ at + length (refusal_line refusal) }
 {
     digits::put_byte(out, at, 0x8F);
-    digits::put_field(out, at + 2, 1, rule::number_of(refusal));
+    digits::put_field(out, at + 2, 1, refusal.number());
     digits::put_field(out, at + 4, 1, place_of(refusal));
     end_line(out, at + 6);
     at + 7
