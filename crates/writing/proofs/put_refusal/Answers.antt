@@ -7,7 +7,7 @@ pub returns : goal.returns
 returns c =
     let a = c.args in
     record {
-      out = rw (c.end_line.ensures, c.put_field-2.ensures, c.place_of.ensures, c.put_field.ensures, c.number_of.ensures, c.put_byte.ensures)
+      out = rw (c.end_line.ensures, c.put_field-2.ensures, c.place_of.ensures, c.put_field.ensures, c.number.ensures, c.put_byte.ensures)
           (refusal_stored a.out.now a.at a.refusal);
       place = rw (length_refusal a.refusal);
     }
