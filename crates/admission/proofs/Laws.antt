@@ -10,10 +10,9 @@ use native.Mathlib.Omega.{arith}
 use borrow.Author.Tests.{eqb-true, eq-eqb, ne_eqb, le-leb, lt-leb, lt-ltb, le-ltb}
 use lib.Dec.{eqb, leb, ltb}
 use lib.ListN.{length}
-use Rattle.numbers.specs.declared.Multiple.{Multiple}
-use Rattle.numbers.specs.declared.Multiple.TheVariants.{At, Above}
 use Rattle.numbers.specs.Multiple.{lcm_all, within as limited}
-use Rattle.numbers.proofs.Limit.{at_tells, above_tells}
+use Rattle.std.specs.Prelude.{Option, Some, None}
+use Rattle.std.proofs.lemmas.Bool.Decides.{nat_tests}
 use Rattle.rule.specs.declared.Accepted.{Accepted}
 use Rattle.rule.specs.declared.Refusal.{Refusal}
 use Rattle.rule.specs.declared.Refusal.TheVariants.{Multiple as too_large, Load}
@@ -87,14 +86,14 @@ module _ (es ps : List ℕ) where
 -- ---- refusals 5 and 6
 
 -- The answer of `least_multiple` under the limit of L tells L itself, or that refusal 5 is given.
-module _ (ps : List ℕ) (answer : Multiple) (is : answer ≡ limited multiple_most (lcm_all ps)) where
-  pub multiple_told : (l : ℕ) → answer ≡ At l → (l ≡ multiple ps) × (l ≤ multiple_most)
+module _ (ps : List ℕ) (answer : Option ℕ) (is : answer ≡ limited multiple_most (lcm_all ps)) where
+  pub multiple_told : (l : ℕ) → answer ≡ Some l → (l ≡ multiple ps) × (l ≤ multiple_most)
   unfolding multiple
-  multiple_told l told = at_tells multiple_most (multiple ps) l (sym is ∙ told)
+  multiple_told l told = grind (arith, nat_tests)
 
-  pub above_told : answer ≡ Above → multiple_most < multiple ps
+  pub none_told : answer ≡ None → multiple_most < multiple ps
   unfolding multiple
-  above_told told = above_tells multiple_most (multiple ps) (sym is ∙ told)
+  none_told told = grind (arith, nat_tests)
 
 module _ (es ps : List ℕ) (m : ℕ) where
   pub multiple_refused : multiple_most < multiple ps → Err too_large ≡ admission_by (first (multiples ps ∷ loads es ps m ∷ [])) es ps

@@ -9,7 +9,6 @@ ghost use Rattle.rule.specs.Outcomes.{admission, admission_by};
 ghost use Rattle.rule.proofs.Sets.{ValidSet};
 ghost use Rattle.admission.specs.Parts.{acceptance_of, spare_of};
 
-use numbers::Multiple;
 use rule::{Accepted, Refusal, Weight};
 
 // M, L and the spare of a set on m units, or the first refusal of 1 to 6 that holds.
@@ -40,9 +39,7 @@ fn admit_valid(requirements: &[u32], periods: &[u32], m: u32) -> Result<Accepted
     requires m_le_units_most { m ≤ units_most }
     ensures { result ≡ admission_by (first (multiples periods.now ∷ loads requirements.now periods.now m ∷ [])) requirements.now periods.now }
 {
-    let Multiple::At(multiple) = numbers::least_multiple(periods, rule::MULTIPLE_MOST) else {
-        return Err(Refusal::Multiple);
-    };
+    let multiple = numbers::least_multiple(periods, rule::MULTIPLE_MOST).ok_or(Refusal::Multiple)?;
     let load = load_of(requirements, periods, multiple);
     let given = m * multiple;
     if load > given {
