@@ -18,7 +18,7 @@ pub struct Task {
     pub k: u32,
 }
 
-// The records as the three lists of the first door, which end where the records do.
+// No more than 64 records as the three lists of the first door. Past the last record nobody reads them.
 #[derive(Drop)]
 struct Lists {
     requirements: [u32; 64],

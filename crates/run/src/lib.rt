@@ -32,8 +32,7 @@ fn run_accepted(
     ensures log { log.new ≡ (slots_from slots requirements.now periods.now m t counts.old log.old).log }
 {
     let n = requirements.len();
-    let spare = accepted.spare;
-    let laid = field::lay_out(requirements, periods, spare);
+    let laid = field::lay_out(requirements, periods, accepted.spare);
     for done in 0..slots {
         let from = done as usize * n;
         let end = slot::deal(
