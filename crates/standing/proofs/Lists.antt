@@ -1,16 +1,26 @@
 -- A search over one place more, and a list written place by place: a store changes just the place that it names.
 use mathlib.Core.Bool.{Bool, true, false, cond}
-use mathlib.Core.List.{List}
+use mathlib.Core.List.{List, [], ◌∷◌, map}
 use mathlib.Core.Logic.{◌≢◌}
-use mathlib.Core.Path.{◌≡◌, refl, ap}
-use Prim.Native.Nat.{ℕ, zero, suc, ◌+◌, ◌≤◌, ◌<◌}
+use mathlib.Core.Path.{◌≡◌, refl, sym, ap, ◌∙◌}
+use native.Mathlib.Decide.{dec_lt, ℕ_discrete}
+use Prim.Native.Nat.{ℕ, suc, ◌+◌, ◌≤◌, ◌<◌}
+use native.Mathlib.Nat.{add_comm, zero-add}
 use native.Mathlib.Numerals.{add-one}
 use native.Mathlib.Omega.{arith}
 use lib.Dec.{ltb}
-use lib.ListN.{set}
-use borrow.Author.Tests.{lt-ltb}
-use Rattle.rule.specs.Places.{lowest, each}
-use Rattle.rule.proofs.Places.{lowest_first, lowest_passes, lowest_found, lowest_none, with_last, each_ext}
+use lib.ListN.{length, length-set, set, get_or}
+use Rattle.std.proofs.lemmas.List.{get_or-set_same, get_or-set_other}
+use borrow.Author.Tests.{lt-ltb, le-ltb}
+use Rattle.std.specs.Prelude.{Option, Some, None, position, zip, not, sum as list_sum}
+use Rattle.std.specs.List.{range_with_len, position_or_len}
+use Rattle.std.proofs.lemmas.List.FromFn.{fill_by_all, length-map-range_with_len, get_or-map-range_with_len}
+use Rattle.std.proofs.lemmas.List.Sums.{sum_by-cons}
+use Rattle.std.proofs.lemmas.Slice.Zip.{length-zip}
+use Rattle.std.proofs.lemmas.Option.{same_Some}
+use Rattle.rule.specs.Places.{at, sum, lowest}
+use Rattle.rule.proofs.Places.{lowest_first, lowest_passes, lowest_found, lowest_none, with_last, sum_append, sum_ext}
+use Rattle.standing.specs.Laid.{found}
 use Rattle.rule.proofs.Tests.{ltb_ext}
 
 -- ---- the lowest place of one more
@@ -26,20 +36,99 @@ module _ (n : ℕ) (test : ℕ → Bool) where
   lowest_never h here =
       lowest_none (suc n) test (with_last {P = λ j. test j ≡ false} n here (λ j l. lowest_first n test j (omega arith)))
 
--- ---- a store
+-- ---- a sum
 
-pub set_each : (n i : ℕ) (f g : ℕ → ℕ) (v : ℕ) → v ≡ g i → ((j : ℕ) → j ≢ i → f j ≡ g j) → set (each n f) i v ≡ each n g
-unfolding each
-set_each zero i f g v here others = refl
-set_each (suc n) zero f g v here others =
-    cc (here, each_ext n (λ j. f (suc j)) (λ j. g (suc j)) (λ j l. others (suc j) (omega arith)))
-set_each (suc n) (suc i) f g v here others =
-    cc (others 0 (omega arith), set_each n i (λ j. f (suc j)) (λ j. g (suc j)) v here (λ j ne. others (suc j) (λ q. ne (omega arith))))
+-- The library's sum of a list is the sum over its places.
+pub sum_places : (xs : List ℕ) → list_sum xs ≡ sum (length xs) (at xs)
+unfolding sum
+sum_places [] = refl
+sum_places (x ∷ xs) =
+    let first = sum_append 1 (length xs) (at (x ∷ xs)) in
+    let rest : sum (length xs) (λ i. at (x ∷ xs) (1 + i)) ≡ sum (length xs) (at xs) = sum_ext (length xs) _ _ (λ i l. rw (add_comm 1 i, add-one)) in
+    let one : sum 1 (at (x ∷ xs)) ≡ x = zero-add x in
+    let all : sum (suc (length xs)) (at (x ∷ xs)) ≡ sum 1 (at (x ∷ xs)) + sum (length xs) (λ i. at (x ∷ xs) (1 + i)) =
+    rw (add_comm 1 (length xs), add-one) at first in
+    let head : list_sum (x ∷ xs) ≡ x + list_sum xs = sum_by-cons (λ n. n) x xs in
+    omega (arith, sum_places xs, all, one, rest, head)
+
+-- ---- a list made place by place
+
+-- Where two functions agree below n, so do the lists of the two.
+pub listed_ext : {X : Type 0} (n : ℕ) (f g : ℕ → X) → ((j : ℕ) → j < n → f j ≡ g j) → map f (range_with_len 0 n) ≡ map g (range_with_len 0 n)
+listed_ext n f g h =
+    fill_by_all g (map f (range_with_len 0 n)) n (f 0) (length-map-range_with_len f 0 n)
+    (λ k l. get_or-map-range_with_len f 0 n k k (f 0) l (omega arith) ∙ h k l)
+
+pub set_listed : {X : Type 0} (n i : ℕ) (f g : ℕ → X) (v : X) → v ≡ g i → ((j : ℕ) → j ≢ i → f j ≡ g j)
+    → set (map f (range_with_len 0 n)) i v ≡ map g (range_with_len 0 n)
+set_listed {X} n i f g v here others =
+    fill_by_all g (set (map f (range_with_len 0 n)) i v) n v (length-set (map f (range_with_len 0 n)) i v ∙ length-map-range_with_len f 0 n)
+    (λ k l. go k l (ℕ_discrete k i))
+  where
+    go : (k : ℕ) → k < n → Dec (k ≡ i) → get_or (set (map f (range_with_len 0 n)) i v) k v ≡ g k
+    go k l (yes e) =
+        let long : k < length (map f (range_with_len 0 n)) = rw (length-map-range_with_len f 0 n) l in
+        rw (← e) (get_or-set_same (map f (range_with_len 0 n)) k v v long ∙ here ∙ ap g (sym e))
+    go k l (no ne) = get_or-set_other (map f (range_with_len 0 n)) i k v v ne ∙ get_or-map-range_with_len f 0 n k k v l (omega arith) ∙ others k ne
 
 -- Where the first i places of a list are written, a store at i writes one more.
-pub each_more : (n i : ℕ) (f : ℕ → ℕ) (xs : List ℕ) (v : ℕ) → xs ≡ each n (λ j. cond (ltb j i) (f j) 0) → v ≡ f i
-    → set xs i v ≡ each n (λ j. cond (ltb j (i + 1)) (f j) 0)
-each_more n i f xs v written here =
+pub listed_more : {X : Type 0} (n i : ℕ) (f : ℕ → X) (none : X) (xs : List X) (v : X)
+    → xs ≡ map (λ j. cond (ltb j i) (f j) none) (range_with_len 0 n) → v ≡ f i
+    → set xs i v ≡ map (λ j. cond (ltb j (i + 1)) (f j) none) (range_with_len 0 n)
+listed_more n i f none xs v written here =
     rw (written, add-one)
-    (set_each n i (λ j. cond (ltb j i) (f j) 0) (λ j. cond (ltb j (suc i)) (f j) 0) v (rw (lt-ltb i (suc i) (omega arith)) here)
-    (λ j ne. ap (λ b. cond b (f j) 0) (ltb_ext j i j (suc i) (λ l. omega arith) (λ l. omega (arith, ne)))))
+    (set_listed n i (λ j. cond (ltb j i) (f j) none) (λ j. cond (ltb j (suc i)) (f j) none) v (rw (lt-ltb i (suc i) (omega arith)) here)
+    (λ j ne. ap (λ b. cond b (f j) none) (ltb_ext j i j (suc i) (λ l. omega arith) (λ l. omega (arith, ne)))))
+
+-- ---- a place that is searched for
+
+pub found_some : (n place i : ℕ) → Some i ≡ found n place → (place < n) × (i ≡ place)
+unfolding found
+found_some n place i q = go (dec_lt place n)
+  where
+    go : Dec (place < n) → (place < n) × (i ≡ place)
+    go (yes l) = (l, same_Some i place (rw (lt-ltb place n l) at q))
+    go (no ne) = let none : ◌≡◌ {A = Option ℕ} (Some i) None = rw (le-ltb place n (omega arith)) at q in cc
+
+pub found_none : (n place : ℕ) → None ≡ found n place → n ≤ place
+unfolding found
+found_none n place q = go (dec_lt place n)
+  where
+    go : Dec (place < n) → n ≤ place
+    go (yes l) = let none : ◌≡◌ {A = Option ℕ} None (Some place) = rw (lt-ltb place n l) at q in absurd (cc)
+    go (no ne) = omega arith
+
+pub found_here : (n place i : ℕ) → i ≡ place → place < n → Some i ≡ found n place
+unfolding found
+found_here n place i e l = rw (lt-ltb place n l, e)
+
+pub found_never : (n place : ℕ) → n ≤ place → None ≡ found n place
+unfolding found
+found_never n place l = rw (le-ltb place n l)
+
+module _ (n : ℕ) (test : ℕ → Bool) where
+  pub found_first : (i : ℕ) → i < n → ((j : ℕ) → j < i → test j ≡ false) → test i ≡ true → Some i ≡ found n (lowest n test)
+  found_first i l before here = let e = lowest_found n i test l before here in found_here n (lowest n test) i (sym e) (omega arith)
+
+  pub found_nowhere : ((j : ℕ) → j < n → test j ≡ false) → None ≡ found n (lowest n test)
+  found_nowhere h = let e = lowest_none n test h in found_never n (lowest n test) (omega arith)
+
+length_zip : (es ps : List ℕ) → length ps ≡ length es → length (zip es ps) ≡ length es
+length_zip es ps same = rw (length-zip, same) (omega arith)
+
+first_zip : (es ps : List ℕ) (test : ℕ → ℕ → Bool) → length ps ≡ length es
+    → position_or_len (λ x. test x.0 x.1) (zip es ps) ≡ lowest (length es) (λ i. test (at es i) (at ps i))
+unfolding lowest
+first_zip [] ps test same = refl
+first_zip (e ∷ es) [] test same = absurd (omega arith)
+first_zip (e ∷ es) (p ∷ ps) test same = go (test e p) (first_zip es ps test (omega arith))
+  where
+    go : {m n : ℕ} (b : Bool) → m ≡ n → cond (not b) (1 + m) 0 ≡ cond b 0 (suc n)
+    go true q = refl
+    go false q = omega arith
+
+-- The library's search of a zip of two lists is a search by places.
+pub lowest_zip : (es ps : List ℕ) (test : ℕ → ℕ → Bool) → length ps ≡ length es
+    → position (λ x. test x.0 x.1) (zip es ps) ≡ found (length es) (lowest (length es) (λ i. test (at es i) (at ps i)))
+unfolding found
+lowest_zip es ps test same = rw (first_zip es ps test same, length_zip es ps same)

@@ -1,5 +1,5 @@
 -- A field laid out in lists: the requirements and the periods, the spare's last if there is one, and the counts of the tasks alone.
-use Rattle.std.specs.Prelude.{Bool, cond, not, ◌&&◌, ◌||◌, List, [], ◌∷◌, ℕ, suc, ◌*◌, ltb, leb, eqb, ℤ, pos, ◌-ℤ◌, length}
+use Rattle.std.specs.Prelude.{Bool, cond, not, ◌&&◌, ◌||◌, List, [], ◌∷◌, ℕ, suc, ◌*◌, ltb, leb, eqb, ℤ, pos, ◌-ℤ◌, length, Option, Some, None}
 use Rattle.rule.specs.declared.Refusal.TheVariants.{Lengths, Units, Record, Lag}
 use Rattle.rule.specs.Limits.{units_most, multiple_most, bounded_by}
 use Rattle.rule.specs.Places.{at, sum, lowest}
@@ -21,6 +21,10 @@ laid_field units es ps ks t = record { size = length es; entry = laid_entry unit
 -- Are the lists of a field: as many periods as requirements, and a count for each, or for each but the spare?
 unfoldable pub is_laid_out : List ℕ → List ℕ → List ℕ → Bool
 is_laid_out es ps ks = eqb (length ps) (length es) && (eqb (length es) (length ks) || eqb (length es) (suc (length ks)))
+
+-- A place that is searched for below n: the place, or none where the search came to n.
+unfoldable pub found : ℕ → ℕ → Option ℕ
+found n place = cond (ltb place n) (Some place) None
 
 -- The lowest place whose record no task and no spare can have.
 unfoldable pub wild_place : List ℕ → List ℕ → ℕ

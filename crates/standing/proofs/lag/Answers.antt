@@ -5,9 +5,8 @@ use Rattle.rule.specs.Task.{lag as lag_of}
 use Rattle.standing.proofs.Integers.{difference_fits}
 use Rattle.standing.proofs.lag.Goals as goal
 
-pub overflow_sub-result : goal.overflow_sub-result
-overflow_sub-result c = simp (to_z_pos w64 _ c.requires.t_bound, to_z_pos w64 _ c.requires.k_bound) (difference_fits _ _ c.requires.t_bound c.requires.k_bound)
-
 pub returns : goal.returns
 unfolding lag_of
-returns c = simp (to_z_pos w64 _ c.requires.t_bound, to_z_pos w64 _ c.requires.k_bound) (to_z-of_z w64 _ (difference_fits _ _ c.requires.t_bound c.requires.k_bound))
+returns c =
+    rw (c.from.ensures, c.from-2.ensures, c.from-3.ensures)
+    (simp (to_z_pos w64 _ c.requires.t_bound, to_z_pos w64 _ c.requires.k_bound) (to_z-of_z w64 _ (difference_fits _ _ c.requires.t_bound c.requires.k_bound)))
