@@ -1,12 +1,11 @@
 -- The answer to a listing, whose bytes are made in the cleared front of the log. Assumes nothing.
+use Rattle.std.specs.Prelude.{Err, Ok, Result}
 use mathlib.Core.Path.{◌≡◌, sym, ap, ◌∙◌}
 use mathlib.Core.List.{List}
 use Prim.Native.Nat.{ℕ, ◌≤◌, ◌<◌}
 use native.Mathlib.Omega.{arith}
 use lib.ListN.{length, take}
 use lib.Seq.{length-take-le}
-use Rattle.rule.specs.declared.Outcome.{Outcome}
-use Rattle.rule.specs.declared.Outcome.TheVariants.{Done, Refused}
 use Rattle.rule.specs.declared.Refusal.{Refusal}
 use Rattle.rule.specs.Limits.{tasks_most}
 use Rattle.rule.specs.Places.{each}
@@ -27,7 +26,7 @@ module _ (k : Kept) (es ps ks : List ℕ) where
   list_into bytes = listing (take k.n es) (take k.n ps) (take k.n ks) bytes k.m k.t
 
   module _ (log : List ℕ) (some : 0 < k.n) (inside : k.n ≤ length es) (room : k.n ≤ length log)
-      (log₁ : List ℕ) (clean : log₁ ≡ written k.n (λ i. 0) log) (o : Outcome) (answer : o ≡ (list_into (take k.n log₁)).answer) where
+      (log₁ : List ℕ) (clean : log₁ ≡ written k.n (λ i. 0) log) (o : Result Unit Refusal) (answer : o ≡ (list_into (take k.n log₁)).answer) where
     list_reply : (reply (session_of k es ps ks) list).text ≡ list_text k.t (list_into (take k.n log₁)) o
     unfolding reply
     list_reply =
@@ -38,7 +37,7 @@ module _ (k : Kept) (es ps ks : List ℕ) where
         ∙ ap (list_text k.t (list_into (take k.n log₁))) (sym answer)
 
     -- It has a byte for each task, no more than 64, so that its line is written.
-    pub list_done : o ≡ Done → k.n ≤ tasks_most → (log₂ : List ℕ) → take k.n log₂ ≡ (list_into (take k.n log₁)).bytes
+    pub list_done : o ≡ Ok tt → k.n ≤ tasks_most → (log₂ : List ℕ) → take k.n log₂ ≡ (list_into (take k.n log₁)).bytes
         → listing_text k.t (take k.n log₂) ≡ (reply (session_of k es ps ks) list).text
     unfolding list_text
     list_done q few log₂ bytes =
@@ -46,6 +45,6 @@ module _ (k : Kept) (es ps ks : List ℕ) where
         ∙ ap (listing_line k.t) bytes
         ∙ sym (list_reply ∙ ap (list_text k.t (list_into (take k.n log₁))) q)
 
-    pub list_refused : (r : Refusal) → o ≡ Refused r → refusal_line r ≡ (reply (session_of k es ps ks) list).text
+    pub list_refused : (r : Refusal) → o ≡ Err r → refusal_line r ≡ (reply (session_of k es ps ks) list).text
     unfolding list_text
     list_refused r q = sym (list_reply ∙ ap (list_text k.t (list_into (take k.n log₁))) q)

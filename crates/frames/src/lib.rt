@@ -13,7 +13,7 @@ ghost use Rattle.frames.specs.Replies.{reply};
 ghost use Rattle.frames.specs.Keeping.{session_of, log_most, has_room, answered};
 
 use reading::Asked;
-use rule::{Admission, Outcome, Ran};
+use rule::{Ran, Refusal};
 
 // What is kept between frames beside the three lists: how many tasks the set in force has, on how many units, and the time. n is 0
 // where there is no set.
@@ -118,7 +118,7 @@ fn list_part(
     counts: &[u32],
     log: &mut [u8],
     kept: Kept,
-) -> Outcome
+) -> Result<(), Refusal>
     requires { (kept.n ≤ length requirements.now) × (kept.n ≤ length periods.now) × (kept.n ≤ length counts.now) × (kept.n ≤ length log.old) }
     ensures answer { result ≡ (listing (take kept.n requirements.now) (take kept.n periods.now) (take kept.n counts.now) (take kept.n log.old) kept.m kept.t).answer }
     ensures bytes { take kept.n log.new ≡ (listing (take kept.n requirements.now) (take kept.n periods.now) (take kept.n counts.now) (take kept.n log.old) kept.m kept.t).bytes }
@@ -188,8 +188,8 @@ fn listed(
     let t = kept.t;
     clear(log, n);
     match list_part(requirements, periods, counts, log, kept) {
-        Outcome::Done => writing::put_listing(out, t, &log[..n]),
-        Outcome::Refused(refusal) => writing::put_refused(out, refusal),
+        Ok(()) => writing::put_listing(out, t, &log[..n]),
+        Err(refusal) => writing::put_refused(out, refusal),
     }
 }
 
@@ -214,11 +214,11 @@ fn admitted(
     let es = reading::column(line, 3);
     let ps = reading::column(line, 5);
     match admission::admit(&es[..n], &ps[..n], m) {
-        Admission::Refused(refusal) => Answered {
+        Err(refusal) => Answered {
             kept: kept, // The former set, at its time.
             size: writing::put_refused(out, refusal),
         },
-        Admission::Accepted(accepted) => {
+        Ok(accepted) => {
             copy(&es, requirements);
             copy(&ps, periods);
             clear_counts(counts, n);
