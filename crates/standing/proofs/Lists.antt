@@ -4,8 +4,7 @@ use mathlib.Core.List.{List, [], ◌∷◌, map}
 use mathlib.Core.Logic.{◌≢◌}
 use mathlib.Core.Path.{◌≡◌, refl, sym, ap, ◌∙◌}
 use native.Mathlib.Decide.{dec_lt, ℕ_discrete}
-use Prim.Native.Nat.{ℕ, suc, ◌+◌, ◌≤◌, ◌<◌}
-use native.Mathlib.Nat.{add_comm, zero-add}
+use Prim.Native.Nat.{ℕ, zero, suc, ◌+◌, ◌≤◌, ◌<◌}
 use native.Mathlib.Numerals.{add-one}
 use native.Mathlib.Omega.{arith}
 use lib.Dec.{ltb}
@@ -19,7 +18,7 @@ use Rattle.std.proofs.lemmas.List.Sums.{sum_by-cons}
 use Rattle.std.proofs.lemmas.Slice.Zip.{length-zip}
 use Rattle.std.proofs.lemmas.Option.{same_Some}
 use Rattle.rule.specs.Places.{at, sum, lowest}
-use Rattle.rule.proofs.Places.{lowest_first, lowest_passes, lowest_found, lowest_none, with_last, sum_append, sum_ext}
+use Rattle.rule.proofs.Places.{lowest_first, lowest_passes, lowest_found, lowest_none, with_last}
 use Rattle.standing.specs.Laid.{found}
 use Rattle.rule.proofs.Tests.{ltb_ext}
 
@@ -38,18 +37,19 @@ module _ (n : ℕ) (test : ℕ → Bool) where
 
 -- ---- a sum
 
+-- The first place apart, where the definition takes the last.
+pub sum_first : (n : ℕ) (f : ℕ → ℕ) → sum (suc n) f ≡ f 0 + sum n (λ i. f (suc i))
+unfolding sum
+sum_first zero f = omega arith
+sum_first (suc n) f = omega (arith, sum_first n f)
+
 -- The library's sum of a list is the sum over its places.
 pub sum_places : (xs : List ℕ) → list_sum xs ≡ sum (length xs) (at xs)
 unfolding sum
 sum_places [] = refl
 sum_places (x ∷ xs) =
-    let first = sum_append 1 (length xs) (at (x ∷ xs)) in
-    let rest : sum (length xs) (λ i. at (x ∷ xs) (1 + i)) ≡ sum (length xs) (at xs) = sum_ext (length xs) _ _ (λ i l. rw (add_comm 1 i, add-one)) in
-    let one : sum 1 (at (x ∷ xs)) ≡ x = zero-add x in
-    let all : sum (suc (length xs)) (at (x ∷ xs)) ≡ sum 1 (at (x ∷ xs)) + sum (length xs) (λ i. at (x ∷ xs) (1 + i)) =
-    rw (add_comm 1 (length xs), add-one) at first in
-    let head : list_sum (x ∷ xs) ≡ x + list_sum xs = sum_by-cons (λ n. n) x xs in
-    omega (arith, sum_places xs, all, one, rest, head)
+    let rest : list_sum (x ∷ xs) ≡ x + sum (length xs) (at xs) = sum_by-cons (λ n. n) x xs ∙ ap (λ n. x + n) (sum_places xs) in
+    rest ∙ sym (sum_first (length xs) (at (x ∷ xs)))
 
 -- ---- a list made place by place
 
