@@ -8,7 +8,6 @@ use Prim.Native.Nat.{ℕ, ◌≤◌}
 use native.Mathlib.Omega.{arith}
 use borrow.Author.Tests.{eq-eqb}
 use lib.ListN.{length, take}
-use Rattle.std.proofs.lemmas.List.FromFn.{length-map-range_with_len}
 use Rattle.rule.specs.declared.Accepted.{Accepted}
 use Rattle.rule.specs.declared.Refusal.{Refusal}
 use Rattle.rule.specs.declared.Refusal.TheVariants.{Lengths}
@@ -26,7 +25,7 @@ use Rattle.standing.specs.declared.Rung.{Rung}
 use Rattle.standing.specs.Judged.{rungs_of, judged}
 use Rattle.standing.specs.Laid.{laid_checks}
 use Rattle.standing.proofs.OfSet.{laid_first}
-use Rattle.standing.proofs.Told.{judged_refused, judged_passed}
+use Rattle.standing.proofs.Told.{judged_refused, judged_passed, length_rungs}
 use Rattle.listing.specs.Marks.{marks_by}
 use Rattle.listing.proofs.Marks.{marks_of_set}
 
@@ -98,8 +97,9 @@ module _ (es ps ks bytes : List ℕ) (m t : ℕ) where
 
           -- There is a rung for each byte.
           pub rungs_cover : length bytes ≤ length rungs
-          unfolding rungs_of
-          rungs_cover = let all = ap length answered.1 ∙ length-map-range_with_len _ 0 65 in omega (arith, set.tasks_le)
+          rungs_cover =
+              let all = ap length answered.1 ∙ length_rungs (units_in_use es ps) (laid_requirements es ps) (laid_periods es ps) ks t in
+              omega (arith, set.tasks_le)
 
           pub listing_marked : (bs : List ℕ) → bs ≡ marks_by (length bytes) rungs
               → record { answer = Ok tt; bytes = bs } ≡ listing es ps ks bytes m t

@@ -13,7 +13,7 @@ use Rattle.rule.specs.declared.Standing.{Standing}
 use Rattle.rule.specs.declared.Standing.TheVariants.{Ahead, Punctual, Behind}
 use Rattle.rule.specs.Answers.{mark}
 use Rattle.rule.specs.Outcomes.{mark_at}
-use Rattle.rule.specs.Places.{at, each}
+use Rattle.rule.specs.Places.{each}
 use Rattle.rule.specs.Sets.{units_in_use, spare, task_at, field_with, field}
 use Rattle.rule.specs.Slot.{is_ahead, is_behind, is_plus, is_minus, tnegru, urgent}
 use Rattle.rule.specs.Task.{Entry, symbol, standing}

@@ -12,7 +12,6 @@ use lib.Dec.{ltb}
 use lib.ListN.{length}
 use Rattle.rule.specs.declared.Refusal.{Refusal}
 use Rattle.rule.specs.declared.Refusal.TheVariants.{Lengths, Stuck}
-use Rattle.std.proofs.lemmas.List.FromFn.{length-map-range_with_len}
 use Rattle.rule.specs.Limits.{multiple_most, time_most, tasks_most, within}
 use Rattle.rule.specs.Places.{at, bit, each}
 use Rattle.rule.specs.Task.{fair}
@@ -27,7 +26,7 @@ use Rattle.standing.specs.Laid.{laid_count, laid_entry, laid_field, is_laid_out,
 use Rattle.standing.specs.Judged.{rungs_of, judged}
 use Rattle.standing.specs.Sound.{Sound}
 use Rattle.standing.proofs.Answers.{sound_lists, all_fair}
-use Rattle.standing.proofs.Told.{judged_refused, judged_passed}
+use Rattle.standing.proofs.Told.{judged_refused, judged_passed, length_rungs}
 use Rattle.slot.specs.Rungs.{Choosing, urgent_to, contending_to, chosen_by, stuck_by, dealt_or_stuck, dealt_rungs}
 use Rattle.slot.specs.Deal.{stuck, deal_checks, dealt_counts, dealt_bytes, dealt_by, dealt}
 use Rattle.slot.proofs.Chosen.{urgents_counted, not_tnegrus_counted, chosen_by_rungs}
@@ -73,12 +72,11 @@ module _ (units : ℕ) (es ps ks bytes : List ℕ) (t : ℕ) where
       all_within = all_fair units es ps ks t sound.most told.1
 
       pub choosing : Choosing es ps (rungs_of units es ps ks t) t
-      unfolding rungs_of
       choosing =
           record {
             same_length = sound.same;
             few = omega (arith, sound.most, sound.few);
-            rung_each = rw length-map-range_with_len (omega (arith, sound.most, sound.few));
+            rung_each = omega (arith, sound.most, sound.few, length_rungs units es ps ks t);
             bounded = sound.bounded;
             on_calendar = sound.early;
           }

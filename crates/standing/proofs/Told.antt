@@ -9,7 +9,7 @@ use borrow.Author.Tests.{lt-ltb}
 use lib.Dec.{ltb}
 use lib.ListN.{length}
 use Rattle.std.specs.Prelude.{Ok, Err}
-use Rattle.std.proofs.lemmas.List.FromFn.{get_or-map-range_with_len}
+use Rattle.std.proofs.lemmas.List.FromFn.{length-map-range_with_len, get_or-map-range_with_len}
 use Rattle.rule.specs.declared.Refusal.{Refusal}
 use Rattle.rule.specs.Refusals.{Verdict, passed, refused, first}
 use Rattle.standing.specs.Laid.{laid_entry, laid_checks}
@@ -34,6 +34,10 @@ module _ (units : ℕ) (es ps ks : List ℕ) (t : ℕ) where
       go : (v : Verdict) → judged_by v units es ps ks t ≡ Ok rungs → (v ≡ passed) × (rungs ≡ rungs_of units es ps ks t)
       go passed q = (refl, cc)
       go (refused r) q = (cc, cc)
+
+  pub length_rungs : length (rungs_of units es ps ks t) ≡ 65
+  unfolding rungs_of
+  length_rungs = length-map-range_with_len (λ i. cond (ltb i (length es)) (rung t (laid_entry units es ps ks t i)) Tnegru) 0 65
 
   pub at_rungs : length es ≤ 65 → (i : ℕ) → i < length es → rung_at (rungs_of units es ps ks t) i ≡ rung t (laid_entry units es ps ks t i)
   unfolding rungs_of

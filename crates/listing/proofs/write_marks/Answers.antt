@@ -14,5 +14,5 @@ returns c =
     let all : length c.loop-i.bytes ≡ length c.args.bytes.now = omega arith in
     record {
       bytes =
-      written_none mark c.loop-i.bytes ∙ written_rest 0 mark c.loop-i.bytes (λ j z l. c.loop-i.invariant j (omega arith)) ∙ ap (λ n. each n mark) all;
+          written_none mark c.loop-i.bytes ∙ written_rest 0 mark c.loop-i.bytes (λ j z l. c.loop-i.invariant j (omega arith)) ∙ ap (λ n. each n mark) all;
     }
