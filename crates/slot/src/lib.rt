@@ -1,12 +1,14 @@
 // One slot: refusals 1 to 9, the choice, the counts and the bytes.
 #![tactic(auto)]
 
-ghost use Rattle.std.specs.Prelude.{◌≡◌, ℕ, ◌+◌, ◌-◌, ◌<◌, ◌≤◌, ltb, length, set, true, ◌&&◌};
+ghost use Rattle.std.specs.Prelude.{◌≡◌, Bool, ℕ, ◌+◌, ◌-◌, ◌<◌, ◌≤◌, ltb, length, set, true, ◌&&◌};
 ghost use Rattle.rule.specs.Limits.{time_most, multiple_most, bounded_by};
-ghost use Rattle.rule.specs.Places.{at, bit, each};
+ghost use Rattle.rule.specs.Places.{at, bit, count, each};
 ghost use Rattle.rule.specs.Task.{compare};
 ghost use Rattle.rule.specs.Slot.{goes_first};
 ghost use Rattle.rule.specs.Outcomes.{admission, slot as slot_of};
+ghost use Rattle.standing.specs.declared.Rung.{Rung};
+ghost use Rattle.standing.specs.Judged.{rung_at};
 ghost use Rattle.slot.specs.Rungs.{Choosing, Cut, is_urgent, contends, urgent_to, contending_to, on_contending, goes_before, rank_to, chosen_by, dealt_rungs};
 ghost use Rattle.slot.specs.Deal.{dealt};
 
@@ -48,12 +50,14 @@ fn goes_first(e: u32, p: u32, e2: u32, p2: u32, t: u32, lower: bool) -> bool
     }
 }
 
+// The rung of an urgent task.
 fn is_urgent(rung: Rung) -> bool
     ensures { result ≡ is_urgent rung }
 {
     matches!(rung, Rung::Urgent)
 }
 
+// The rungs of a contender.
 fn contends(rung: Rung) -> bool
     ensures { result ≡ contends rung }
 {
@@ -61,20 +65,13 @@ fn contends(rung: Rung) -> bool
 }
 
 impl Field<'_> {
-    // How many places are urgent.
-    fn urgents(&self) -> usize
-        ensures { result ≡ urgent_to (length self.now.requirements.now) self.now.rungs.now }
+    // How many places have a rung that passes the test.
+    fn count_rungs<F: Fn(Rung) -> bool>(&self, test: F) -> usize
+        requires { F.IsAlwaysCallable test }
+        ensures { (passes : Rung → Bool) → ((rung : Rung) (b : Bool) → F.post test rung b → b ≡ passes rung) → result ≡ count (length self.now.requirements.now) (λ i. passes (rung_at self.now.rungs.now i)) }
     {
         let places = &self.rungs[..self.requirements.len()];
-        places.iter().filter(|rung| is_urgent(**rung)).count()
-    }
-
-    // How many places contend.
-    fn contenders(&self) -> usize
-        ensures { result ≡ contending_to (length self.now.requirements.now) self.now.rungs.now }
-    {
-        let places = &self.rungs[..self.requirements.len()];
-        places.iter().filter(|rung| contends(**rung)).count()
+        places.iter().filter(|rung| test(**rung)).count()
     }
 
     // Does place j contend and go before place i?
@@ -187,8 +184,8 @@ impl Field<'_> {
         ensures counts { let f = self.now in counts.new ≡ (dealt_rungs units f.requirements.now f.periods.now f.rungs.now counts.old bytes.old f.t).counts }
         ensures bytes { let f = self.now in bytes.new ≡ (dealt_rungs units f.requirements.now f.periods.now f.rungs.now counts.old bytes.old f.t).bytes }
     {
-        let urgent = self.urgents();
-        let contending = self.contenders();
+        let urgent = self.count_rungs(is_urgent);
+        let contending = self.count_rungs(contends);
         if units < urgent {
             return Err(Refusal::Stuck);
         }
