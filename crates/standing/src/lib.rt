@@ -41,6 +41,16 @@ struct Field<'a> {
     ghost sound: { Sound requirements.now periods.now counts.now t },
 }
 
+// A task within its limits, with a count that is a u32, at a time of the calendar.
+#[derive(Clone, Copy)]
+struct Task {
+    e: u32,
+    p: u32,
+    k: u64,
+    t: u32,
+    ghost small: { Small e p k t },
+}
+
 // The rung of every place of a field at t, M in use, or the first refusal that holds.
 pub fn judge(
     units: u32,
@@ -83,6 +93,7 @@ pub fn judge(
 }
 
 // Are these the lists of a field?
+#[tactic(auto, unfolding(crate::specs::Laid::is_laid_out))]
 fn laid_out(requirements: &[u32], periods: &[u32], counts: &[u32]) -> bool
     ensures { result ≡ is_laid_out requirements.now periods.now counts.now }
 {
@@ -106,6 +117,21 @@ fn wild_place(requirements: &[u32], periods: &[u32]) -> Option<usize>
 }
 
 impl Field<'_> {
+    // The task, or the spare, at a place, with this count.
+    fn task(&self, place: usize, count: u64) -> Task
+        requires in_bounds { place < length self.now.requirements.now }
+        requires narrow { count ≤ 4294967295 }
+        ensures entry { let f = self.now in counted result.e result.p result.k ≡ counted (at f.requirements.now place) (at f.periods.now place) count }
+        ensures time { result.t ≡ self.now.t }
+    {
+        Task {
+            e: self.requirements[place],
+            p: self.periods[place],
+            k: count,
+            t: self.t,
+        }
+    }
+
     // The lowest place whose lag is out of bounds; place n is the spare's, or the sum's.
     fn unfair_place(&self) -> Option<usize>
         ensures { let f = self.now in result ≡ found (suc (length f.counts.now)) (laid_unfair_place f.units f.requirements.now f.periods.now f.counts.now f.t) }
@@ -125,7 +151,7 @@ impl Field<'_> {
         ensures { let f = self.now in result ≡ found (length f.counts.now) (lowest (length f.counts.now) (λ i. not (fair f.t (task_at f.requirements.now f.periods.now f.counts.now i)))) }
     {
         for (i, &k) in self.counts.iter().enumerate() {
-            if !is_fair(self.requirements[i], self.periods[i], u64::from(k), self.t) {
+            if !self.task(i, u64::from(k)).is_fair() {
                 return Some(i);
             }
         }
@@ -146,12 +172,7 @@ impl Field<'_> {
         if others > given {
             return false;
         }
-        is_fair(
-            self.requirements[n],
-            self.periods[n],
-            given - others,
-            self.t,
-        )
+        self.task(n, given - others).is_fair()
     }
 
     // The rungs of all places of a field whose lags are within their bounds.
@@ -166,12 +187,7 @@ impl Field<'_> {
         }
         let given = u64::from(self.units) * u64::from(self.t);
         let others = sum_of(self.counts);
-        rungs[n] = rung_of(
-            self.requirements[n],
-            self.periods[n],
-            given - others,
-            self.t,
-        );
+        rungs[n] = self.task(n, given - others).rung();
         rungs
     }
 
@@ -182,7 +198,7 @@ impl Field<'_> {
     {
         let mut rungs = [Rung::Tnegru; 65];
         for (i, &k) in self.counts.iter().enumerate() {
-            rungs[i] = rung_of(self.requirements[i], self.periods[i], u64::from(k), self.t);
+            rungs[i] = self.task(i, u64::from(k)).rung();
         }
         rungs
     }
@@ -196,46 +212,46 @@ fn sum_of(counts: &[u32]) -> u64
     counts.iter().map(|k| u64::from(*k)).sum()
 }
 
-// The rung of a task at t, by its lag and the next one.
-fn rung_of(e: u32, p: u32, k: u64, t: u32) -> Rung
-    requires small { Small e p k t }
-    requires fair { fair t (counted e p k) ≡ true }
-    ensures { result ≡ rung t (counted e p k) }
-{
-    let next = lag(e, p, k, t + 1);
-    if next <= 0 {
-        return Rung::Tnegru;
+impl Task {
+    // The rung, by the lag and the next one.
+    fn rung(&self) -> Rung
+        requires { let x = self.now in fair x.t (counted x.e x.p x.k) ≡ true }
+        ensures { let x = self.now in result ≡ rung x.t (counted x.e x.p x.k) }
+    {
+        let next = self.lag(self.t + 1);
+        if next <= 0 {
+            return Rung::Tnegru;
+        }
+        if next >= self.p as i64 {
+            return Rung::Urgent;
+        }
+        let lag = self.lag(self.t);
+        if lag < 0 {
+            Rung::Ahead
+        } else if lag == 0 {
+            Rung::Punctual
+        } else {
+            Rung::Behind
+        }
     }
-    if next >= p as i64 {
-        return Rung::Urgent;
-    }
-    let lag = lag(e, p, k, t);
-    if lag < 0 {
-        Rung::Ahead
-    } else if lag == 0 {
-        Rung::Punctual
-    } else {
-        Rung::Behind
-    }
-}
 
-// Is the lag times period strictly between -p and p?
-fn is_fair(e: u32, p: u32, k: u64, t: u32) -> bool
-    requires { Small e p k t }
-    ensures { result ≡ fair t (counted e p k) }
-{
-    let lag = lag(e, p, k, t);
-    let period = p as i64;
-    -period < lag && lag < period
-}
+    // Is the lag times period strictly between -p and p?
+    fn is_fair(&self) -> bool
+        ensures { let x = self.now in result ≡ fair x.t (counted x.e x.p x.k) }
+    {
+        let lag = self.lag(self.t);
+        let period = self.p as i64;
+        -period < lag && lag < period
+    }
 
-// The lag times period, e·t - p·k.
-fn lag(e: u32, p: u32, k: u64, t: u32) -> i64
-    requires t_bound { e * t < 2 ^ 63 }
-    requires k_bound { p * k < 2 ^ 63 }
-    ensures { result ≡ lag_of t (counted e p k) }
-{
-    let due = u64::from(e) * u64::from(t);
-    let done = u64::from(p) * k;
-    (due as i64) - (done as i64)
+    // The lag times period at a time, e·t - p·k.
+    fn lag(&self, t: u32) -> i64
+        requires t_bound { self.now.e * t < 2 ^ 63 }
+        requires k_bound { self.now.p * self.now.k < 2 ^ 63 }
+        ensures { let x = self.now in result ≡ lag_of t (counted x.e x.p x.k) }
+    {
+        let due = u64::from(self.e) * u64::from(t);
+        let done = u64::from(self.p) * self.k;
+        (due as i64) - (done as i64)
+    }
 }

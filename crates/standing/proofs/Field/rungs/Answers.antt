@@ -4,7 +4,7 @@ use native.Mathlib.Omega.{arith}
 use lib.ListN.{length, set}
 use Rattle.rule.specs.Task.{fair}
 use Rattle.standing.specs.Judged.{rung}
-use Rattle.standing.proofs.Entries.{small_at, given_narrow, laid_task, laid_spare, spare_within, rungs_of_tasks, rungs_with_spare}
+use Rattle.standing.proofs.Entries.{given_narrow, laid_task, laid_spare, spare_within, rungs_of_tasks, rungs_with_spare}
 use Rattle.standing.proofs.Field.rungs.Goals as goal
 
 pub task_rungs-rungs-requires : goal.task_rungs-rungs-requires
@@ -30,8 +30,18 @@ overflow_sub-given c =
     rw (c.from.ensures, c.from-2.ensures)
     (spare_within f.units f.requirements.now f.periods.now f.counts.now f.t others.result others.ensures (c.requires.each_fair (length f.counts.now) (omega arith)))
 
-pub rung_of-requires : goal.rung_of-requires
-rung_of-requires c =
+pub task-requires : goal.task-requires
+task-requires c =
+    let f = c.args.self.now in
+    let narrow = rw (← c.from.ensures, ← c.from-2.ensures) at (given_narrow f.units f.t f.few_units f.sound.early) in
+    let least = f.sound.least in
+    record {
+      in_bounds = omega arith;
+      narrow = omega arith;
+    }
+
+pub rung-requires : goal.rung-requires
+rung-requires c =
     let f = c.args.self.now in
     let others = c.sum_of-others in
     let most = f.sound.most in
@@ -39,11 +49,7 @@ rung_of-requires c =
     let within = c.requires.each_fair (length f.counts.now) (omega arith) in
     let spare = laid_spare f.units f.requirements.now f.periods.now f.counts.now f.t others.result others.ensures
     (spare_within f.units f.requirements.now f.periods.now f.counts.now f.t others.result others.ensures within) in
-    let narrow = given_narrow f.units f.t f.few_units f.sound.early in
-    rw (c.from.ensures, c.from-2.ensures) (record {
-      small = small_at f.sound (length f.counts.now) _ (omega arith) (omega arith);
-      fair = ap (λ x. fair f.t x) (sym spare) ∙ within;
-    })
+    rw (c.task.ensures.time, c.task.ensures.entry, c.from.ensures, c.from-2.ensures) (ap (λ x. fair f.t x) (sym spare) ∙ within)
 
 pub returns : goal.returns
 returns c =
@@ -54,6 +60,6 @@ returns c =
     let within = c.requires.each_fair (length f.counts.now) (omega arith) in
     let spare = laid_spare f.units f.requirements.now f.periods.now f.counts.now f.t others.result others.ensures
     (spare_within f.units f.requirements.now f.periods.now f.counts.now f.t others.result others.ensures within) in
-    let rung_is = rw (c.from.ensures, c.from-2.ensures) at c.rung_of.ensures in
-    ap (λ xs. set xs (length f.counts.now) c.rung_of.result) c.task_rungs-rungs.ensures
-    ∙ rungs_with_spare f.units f.requirements.now f.periods.now f.counts.now f.t c.rung_of.result (omega arith) (rung_is ∙ ap (λ x. rung f.t x) (sym spare))
+    let rung_is = rw (c.task.ensures.time, c.task.ensures.entry, c.from.ensures, c.from-2.ensures) at c.rung.ensures in
+    ap (λ xs. set xs (length f.counts.now) c.rung.result) c.task_rungs-rungs.ensures
+    ∙ rungs_with_spare f.units f.requirements.now f.periods.now f.counts.now f.t c.rung.result (omega arith) (rung_is ∙ ap (λ x. rung f.t x) (sym spare))

@@ -3,7 +3,7 @@ use mir.Syntax.{w64}
 use mir.ValLaws.{to_z_pos, to_z-of_z}
 use Rattle.rule.specs.Task.{lag as lag_of}
 use Rattle.standing.proofs.Integers.{difference_fits}
-use Rattle.standing.proofs.lag.Goals as goal
+use Rattle.standing.proofs.Task.lag.Goals as goal
 
 pub returns : goal.returns
 unfolding lag_of

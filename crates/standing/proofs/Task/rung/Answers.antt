@@ -8,55 +8,58 @@ use Rattle.rule.proofs.Lags.{counted}
 use Rattle.standing.specs.Judged.{between, rung}
 use Rattle.standing.proofs.Integers.{lag_fits, due_fits, next_due_fits, done_fits, word_is, period_is}
 use Rattle.standing.proofs.Rungs.{lag_ahead, lag_punctual, lag_behind, rung_tnegru, rung_urgent, rung_between}
-use Rattle.standing.proofs.rung_of.Goals.{Else-next-p}
-use Rattle.standing.proofs.rung_of.Goals as goal
+use Rattle.standing.proofs.Task.rung.Goals.{Else-next-self}
+use Rattle.standing.proofs.Task.rung.Goals as goal
 
 pub lag-next-requires : goal.lag-next-requires
-lag-next-requires c = rw add-one (record { t_bound = next_due_fits c.requires.small; k_bound = done_fits c.requires.small })
+lag-next-requires c =
+    let small = c.args.self.now.small in
+    rw add-one (record { t_bound = next_due_fits small; k_bound = done_fits small })
 
 pub returns-then-next-le0 : goal.returns-then-next-le0
 returns-then-next-le0 c =
-    let x = c.args in
-    let small = c.requires.small in
+    let x = c.args.self.now in
+    let small = x.small in
     let next = word_is (lag_fits x.e x.p x.k _ (next_due_fits small) (done_fits small)) (rw add-one at c.lag-next.ensures) in
-    sym (rung_tnegru x.e x.p x.k x.t small c.requires.fair (rw next at c.if-next-le0.true))
+    sym (rung_tnegru x.e x.p x.k x.t small c.requires (rw next at c.if-next-le0.true))
 
-pub returns-then-next-p : goal.returns-then-next-p
-returns-then-next-p c =
-    let x = c.args in
-    let small = c.requires.small in
+pub returns-then-next-self : goal.returns-then-next-self
+returns-then-next-self c =
+    let x = c.args.self.now in
+    let small = x.small in
     let next = word_is (lag_fits x.e x.p x.k _ (next_due_fits small) (done_fits small)) (rw add-one at c.lag-next.ensures) in
     sym
-    (rung_urgent x.e x.p x.k x.t small c.requires.fair (rw next at c.if-next-le0.false)
-    (rw (period_is x.p small.limit, next) at c.if-next-p.true))
+    (rung_urgent x.e x.p x.k x.t small c.requires (rw next at c.if-next-le0.false)
+    (rw (period_is x.p small.limit, next) at c.if-next-self.true))
 
 pub lag-lag-requires : goal.lag-lag-requires
-lag-lag-requires c = let small = c.requires.small in
+lag-lag-requires c =
+    let small = c.args.self.now.small in
     record {
       t_bound = due_fits small;
       k_bound = done_fits small;
     }
 
 -- Past the tests of the next lag the rung is that of the standing.
-contends : (c : Else-next-p) → rung c.args.t (counted c.args.e c.args.p c.args.k) ≡ between (standing c.args.t (counted c.args.e c.args.p c.args.k))
+contends : (c : Else-next-self) → let x = c.args.self.now in rung x.t (counted x.e x.p x.k) ≡ between (standing x.t (counted x.e x.p x.k))
 contends c =
-    let x = c.args in
-    let small = c.requires.small in
+    let x = c.args.self.now in
+    let small = x.small in
     let next = word_is (lag_fits x.e x.p x.k _ (next_due_fits small) (done_fits small)) (rw add-one at c.lag-next.ensures) in
-    rung_between x.e x.p x.k x.t small c.requires.fair (rw next at c.if-next-le0.false)
-    (rw (period_is x.p small.limit, next) at c.if-next-p.false)
+    rung_between x.e x.p x.k x.t small c.requires (rw next at c.if-next-le0.false)
+    (rw (period_is x.p small.limit, next) at c.if-next-self.false)
 
 pub returns-then-lag-lt0 : goal.returns-then-lag-lt0
 returns-then-lag-lt0 c =
-    let x = c.args in
-    let small = c.requires.small in
+    let x = c.args.self.now in
+    let small = x.small in
     let lag = word_is (lag_fits x.e x.p x.k x.t (due_fits small) (done_fits small)) c.lag-lag.ensures in
     sym (contends c.before.before ∙ ap between (lag_ahead x.t (counted x.e x.p x.k) (rw lag at c.if-lag-lt0.true)))
 
 pub returns-then-lag-eq0 : goal.returns-then-lag-eq0
 returns-then-lag-eq0 c =
-    let x = c.args in
-    let small = c.requires.small in
+    let x = c.args.self.now in
+    let small = x.small in
     let lag = word_is (lag_fits x.e x.p x.k x.t (due_fits small) (done_fits small)) c.lag-lag.ensures in
     sym
     (contends c.before.before.before
@@ -64,8 +67,8 @@ returns-then-lag-eq0 c =
 
 pub returns-else-lag-eq0 : goal.returns-else-lag-eq0
 returns-else-lag-eq0 c =
-    let x = c.args in
-    let small = c.requires.small in
+    let x = c.args.self.now in
+    let small = x.small in
     let is = c.lag-lag.ensures in
     let lag = word_is (lag_fits x.e x.p x.k x.t (due_fits small) (done_fits small)) is in
     sym
