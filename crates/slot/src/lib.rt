@@ -33,6 +33,7 @@ struct Known {
 }
 
 // Does the first task go before the second, of which `lower` says whether its place is the lower one?
+#[tactic(auto, using(crate::proofs::Laws::same_record, crate::proofs::Laws::engine_says))]
 fn goes_first(e: u32, p: u32, e2: u32, p2: u32, t: u32, lower: bool) -> bool
     requires first_bounded { bounded_by multiple_most e p ≡ true }
     requires second_bounded { bounded_by multiple_most e2 p2 ≡ true }
@@ -109,6 +110,7 @@ impl Field<'_> {
 
     // Does a contender run? Who goes before one that has room has room too, and who goes after one that has none has none, so that the
     // others are counted only for a place between the two.
+    #[tactic(auto, using(crate::proofs::Room::earlier))]
     fn contender_runs(&self, i: usize, room: usize, known: &mut Known) -> bool
         requires in_bounds { i < length self.now.requirements.now }
         requires cut_known { let f = self.now in Cut f.requirements.now f.periods.now f.rungs.now f.t room known.old.inside known.old.outside }
@@ -134,6 +136,7 @@ impl Field<'_> {
     }
 
     // Does the slot run place i? Beside the urgent ones there is room for so many of the contenders.
+    #[tactic(auto, using(crate::proofs::Laws::rank_lt, crate::proofs::Laws::chosen_urgent, crate::proofs::Laws::chosen_neither, crate::proofs::Laws::chosen_contending))]
     fn runs(&self, i: usize, room: usize, contending: usize, known: &mut Known) -> bool
         requires in_bounds { i < length self.now.requirements.now }
         requires contenders { contending ≡ contending_to (length self.now.requirements.now) self.now.rungs.now }

@@ -10,7 +10,7 @@ ghost use Rattle.rule.specs.Sets.{task_at};
 ghost use Rattle.rule.specs.Task.{lag as lag_of, fair};
 ghost use Rattle.rule.proofs.Lags.{counted};
 ghost use Rattle.standing.specs.Judged.{rung, rungs_of, judged};
-ghost use Rattle.standing.specs.Laid.{is_laid_out, laid_entry, laid_unfair, laid_unfair_place, wild_place, found};
+ghost use Rattle.standing.specs.Laid.{is_laid_out, laid_entry, laid_unfair, laid_unfair_place, found};
 ghost use Rattle.standing.specs.Sound.{Small, Sound};
 
 use rule::Refusal;
