@@ -122,6 +122,7 @@ impl Field<'_> {
     }
 
     // The lowest place whose lag is out of bounds; place n is the spare's, or the sum's.
+    #[tactic(auto, using(crate::proofs::Entries::found_task, crate::proofs::Entries::found_last, crate::proofs::Entries::found_nowhere))]
     fn unfair_place(&self) -> Option<usize>
         ensures { let f = self.now in result ≡ found (suc (length f.counts.now)) (laid_unfair_place f.units f.requirements.now f.periods.now f.counts.now f.t) }
     {
@@ -136,6 +137,7 @@ impl Field<'_> {
     }
 
     // The lowest place of a task whose lag is out of bounds.
+    #[tactic(auto, using(rule::proofs::Searches::found_first, rule::proofs::Searches::found_nowhere), unfolding(rule::specs::Sets::task_at))]
     fn unfair_task(&self) -> Option<usize>
         ensures { let f = self.now in result ≡ found (length f.counts.now) (lowest (length f.counts.now) (λ i. not (fair f.t (task_at f.requirements.now f.periods.now f.counts.now i)))) }
     {
@@ -148,6 +150,7 @@ impl Field<'_> {
     }
 
     // Is the spare's lag within its bounds, or where there is no spare, do the counts add up to M·t?
+    #[tactic(auto, using(crate::proofs::Entries::given_narrow, crate::proofs::Entries::fair_sum, crate::proofs::Entries::fair_spare, crate::proofs::Entries::laid_spare, crate::proofs::Entries::spare_over))]
     fn adds_up(&self) -> bool
         ensures { let f = self.now in result ≡ not (laid_unfair f.units f.requirements.now f.periods.now f.counts.now f.t (length f.counts.now)) }
     {
@@ -181,6 +184,7 @@ impl Field<'_> {
     }
 
     // The rungs of the tasks, and Tnegru past them.
+    #[tactic(auto, using(crate::proofs::Lists::listed_more), unfolding(rule::specs::Sets::task_at))]
     fn task_rungs(&self) -> [Rung; 65]
         requires each_fair { let f = self.now in (i : ℕ) → i < length f.counts.now → fair f.t (task_at f.requirements.now f.periods.now f.counts.now i) ≡ true }
         ensures { let f = self.now in result ≡ map (λ i. cond (ltb i (length f.counts.now)) (rung f.t (task_at f.requirements.now f.periods.now f.counts.now i)) Rung.Tnegru) (range_with_len 0 65) }
