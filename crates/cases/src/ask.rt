@@ -5,6 +5,7 @@ use crate::show::{
     self, Admitted, Answer, Choice, Compared, Dealt, Fraction, Marks, Numbers, Refused, Set,
     Standing, Units,
 };
+use rule::Weight;
 
 // Admission of a set.
 pub fn admission(rt: &impl Print, set: Set<'_>) {
@@ -13,10 +14,13 @@ pub fn admission(rt: &impl Print, set: Set<'_>) {
 }
 
 // Admission of a set of N tasks that are all alike.
-pub fn alike<const N: usize>(rt: &impl Print, task: Fraction, m: u32)
+pub fn alike<const N: usize>(rt: &impl Print, task: Weight, m: u32)
     requires fits_in_memory { 4 * N < 2 ^ 63 }
 {
-    show::line(rt, format_args!("{N} tasks of {task} on {}", Units(m)));
+    show::line(
+        rt,
+        format_args!("{N} tasks of {} on {}", Fraction(task), Units(m)),
+    );
     admitted(
         rt,
         Set {
@@ -33,9 +37,12 @@ fn admitted(rt: &impl Print, set: Set<'_>) {
 }
 
 // Comparison of two tasks at a time.
-pub fn comparison(rt: &impl Print, one: Fraction, other: Fraction, t: u32) {
-    show::line(rt, format_args!("{one} against {other} at time {t}"));
-    let comparison = order::compare(one.into(), other.into(), t);
+pub fn comparison(rt: &impl Print, one: Weight, other: Weight, t: u32) {
+    show::line(
+        rt,
+        format_args!("{} against {} at time {t}", Fraction(one), Fraction(other)),
+    );
+    let comparison = order::compare(one, other, t);
     show::reply(rt, Answer(comparison.map(Compared)));
 }
 

@@ -4,7 +4,8 @@
 mod ask;
 mod show;
 
-use show::{Choice, Fraction, Set};
+use rule::Weight;
+use show::{Choice, Set};
 
 // The paper's set.
 const PAPER: Set<'static> = Set {
@@ -49,10 +50,10 @@ fn multiples(rt: &impl Print) {
 // The most tasks and one more, the most units and one more.
 fn tasks_and_units(rt: &impl Print) {
     show::line(rt, "\nThe limits of tasks and units");
-    ask::alike::<64>(rt, Fraction { e: 1, p: 64 }, 1);
-    ask::alike::<65>(rt, Fraction { e: 1, p: 65 }, 1);
-    ask::alike::<64>(rt, Fraction { e: 1, p: 2 }, 32);
-    ask::alike::<64>(rt, Fraction { e: 1, p: 2 }, 33);
+    ask::alike::<64>(rt, Weight { e: 1, p: 64 }, 1);
+    ask::alike::<65>(rt, Weight { e: 1, p: 65 }, 1);
+    ask::alike::<64>(rt, Weight { e: 1, p: 2 }, 32);
+    ask::alike::<64>(rt, Weight { e: 1, p: 2 }, 33);
 }
 
 // The paper's set, on enough units and on one too few.
@@ -65,11 +66,11 @@ fn loads(rt: &impl Print) {
 // Each of the three answers, then the last time and one later.
 fn comparisons(rt: &impl Print) {
     show::line(rt, "\nThe order of two tasks");
-    let half = Fraction { e: 1, p: 2 };
-    let third = Fraction { e: 1, p: 3 };
-    ask::comparison(rt, Fraction { e: 2, p: 3 }, third, 0);
+    let half = Weight { e: 1, p: 2 };
+    let third = Weight { e: 1, p: 3 };
+    ask::comparison(rt, Weight { e: 2, p: 3 }, third, 0);
     ask::comparison(rt, half, third, 1);
-    ask::comparison(rt, third, Fraction { e: 1, p: 6 }, 3);
+    ask::comparison(rt, third, Weight { e: 1, p: 6 }, 3);
     ask::comparison(rt, half, third, 16777215);
     ask::comparison(rt, half, third, 16777216);
 }

@@ -31,7 +31,7 @@ impl fmt::Display for Set<'_> {
             if i > 0 {
                 write!(f, ", ")?;
             }
-            write!(f, "{}", Fraction { e, p })?;
+            write!(f, "{}", Fraction(Weight { e, p }))?;
         }
         write!(f, " on {}", Units(self.m))
     }
@@ -52,25 +52,14 @@ impl fmt::Display for Standing<'_> {
     }
 }
 
-// What a task asks.
+// What a task asks, or the spare takes.
 #[derive(Clone, Copy)]
-pub struct Fraction {
-    pub e: u32,
-    pub p: u32,
-}
-
-impl From<Fraction> for Weight {
-    fn from(task: Fraction) -> Weight {
-        Weight {
-            e: task.e,
-            p: task.p,
-        }
-    }
-}
+pub struct Fraction(pub Weight);
 
 impl fmt::Display for Fraction {
     fn fmt<W: fmt::Write>(&self, f: &mut fmt::Formatter<W>) -> fmt::Result {
-        write!(f, "{}/{}", self.e, self.p)
+        let Weight { e, p } = self.0;
+        write!(f, "{e}/{p}")
     }
 }
 
@@ -167,7 +156,7 @@ impl fmt::Display for Admitted {
         write!(f, "accepted: M {units}, L {multiple}, ")?;
         match spare {
             None => write!(f, "no spare"),
-            Some(Weight { e, p }) => write!(f, "spare {}", Fraction { e, p }),
+            Some(weight) => write!(f, "spare {}", Fraction(weight)),
         }
     }
 }
