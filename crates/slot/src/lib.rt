@@ -96,6 +96,7 @@ impl Field<'_> {
     }
 
     // Do fewer contenders go before place i than there is room for? Once the room is taken the rest of them is not asked.
+    #[tactic(auto, using(crate::proofs::Room::rank_grows, crate::proofs::Room::rank_more))]
     fn has_room(&self, i: usize, room: usize) -> bool
         requires in_bounds { i < length self.now.requirements.now }
         ensures { let f = self.now in result ≡ ltb (rank_to (length f.requirements.now) f.requirements.now f.periods.now f.rungs.now f.t i) room }

@@ -1,4 +1,3 @@
--- The places that are known of lie in the field. Assumes nothing.
 use Rattle.slot.proofs.Field.contender_runs.Goals as goal
 
 pub before-requires : goal.before-requires
