@@ -1,5 +1,6 @@
 -- Admission step by step: where the lengths agree the checks of the set decide, a check of a limit holds just outside it, and what
 -- passes the first four checks is judged by the last two.
+use Rattle.std.specs.Prelude.{Err, Ok}
 use mathlib.Core.Bool.{Bool, true, false, not, ◌&&◌, ◌||◌}
 use mathlib.Core.List.{List, [], ◌∷◌}
 use mathlib.Core.Logic.{◌⊎◌, inl, inr}
@@ -16,7 +17,6 @@ use Rattle.numbers.proofs.Limit.{at_tells, above_tells}
 use Rattle.rule.specs.declared.Accepted.{Accepted}
 use Rattle.rule.specs.declared.Refusal.{Refusal}
 use Rattle.rule.specs.declared.Refusal.TheVariants.{Multiple as too_large, Load}
-use Rattle.rule.specs.declared.Admission.TheVariants.{Accepted as accepted, Refused as not_admitted}
 use Rattle.rule.specs.Limits.{within, tasks_most, units_most, multiple_most}
 use Rattle.rule.specs.Sets.{units_in_use, room, spare, multiple, load}
 use Rattle.rule.specs.Refusals.{Check, Verdict, passed, refused, first, differ, lengths, tasks, units, records, multiples, loads, invalid_place, set_checks, admission_checks}
@@ -56,11 +56,11 @@ lengths_tell n l h = go (eqb l n) refl h
 -- ---- the answer
 
 module _ (es ps : List ℕ) where
-  pub refused_by : {cs : List Check} {r : Refusal} → Given cs r → admission_by (first cs) es ps ≡ not_admitted r
+  pub refused_by : {cs : List Check} {r : Refusal} → Given cs r → admission_by (first cs) es ps ≡ Err r
   unfolding admission_by
   refused_by g = ap (λ v. admission_by v es ps) (given_first g)
 
-  pub accepted_by : {cs : List Check} → NoneHolds cs → admission_by (first cs) es ps ≡ accepted (acceptance es ps)
+  pub accepted_by : {cs : List Check} → NoneHolds cs → admission_by (first cs) es ps ≡ Ok (acceptance es ps)
   unfolding admission_by
   accepted_by n = ap (λ v. admission_by v es ps) (none_first n)
 
@@ -81,19 +81,19 @@ module _ (ps : List ℕ) (answer : Multiple) (is : answer ≡ limited multiple_m
   above_told told = above_tells multiple_most (multiple ps) (sym is ∙ told)
 
 module _ (es ps : List ℕ) (m : ℕ) where
-  pub multiple_refused : multiple_most < multiple ps → not_admitted too_large ≡ admission_by (first (multiples ps ∷ loads es ps m ∷ [])) es ps
+  pub multiple_refused : multiple_most < multiple ps → Err too_large ≡ admission_by (first (multiples ps ∷ loads es ps m ∷ [])) es ps
   multiple_refused above = sym (refused_by es ps (this (lt-ltb multiple_most (multiple ps) above)))
 
   module _ (l k : ℕ) (l-is : l ≡ multiple ps) (k-is : k ≡ load es ps) (limit : l ≤ multiple_most) where
     within_limit : ltb multiple_most (multiple ps) ≡ false
     within_limit = le-ltb multiple_most (multiple ps) (omega arith)
 
-    pub load_refused : m * l < k → not_admitted (Load (k - m * l)) ≡ admission_by (first (multiples ps ∷ loads es ps m ∷ [])) es ps
+    pub load_refused : m * l < k → Err (Load (k - m * l)) ≡ admission_by (first (multiples ps ∷ loads es ps m ∷ [])) es ps
     load_refused above =
         rw (l-is, k-is)
         (sym (refused_by es ps (next within_limit (this (lt-ltb (m * multiple ps) (load es ps) (rw (l-is, k-is) at above))))))
 
-    pub set_accepted : k ≤ m * l → accepted (acceptance_of k l) ≡ admission_by (first (multiples ps ∷ loads es ps m ∷ [])) es ps
+    pub set_accepted : k ≤ m * l → Ok (acceptance_of k l) ≡ admission_by (first (multiples ps ∷ loads es ps m ∷ [])) es ps
     set_accepted enough =
         rw (l-is, k-is, ← acceptance_is es ps)
         (sym (accepted_by es ps (and within_limit (and (le-ltb (m * multiple ps) (load es ps) (rw (l-is, k-is) at enough)) none))))
@@ -124,7 +124,7 @@ module _ (es ps : List ℕ) (m : ℕ) (same : length ps ≡ length es) where
 -- ---- what an answer tells
 
 module _ (es ps : List ℕ) (m : ℕ) where
-  pub accepted_tells : (a : Accepted) → admission es ps m ≡ accepted a
+  pub accepted_tells : (a : Accepted) → admission es ps m ≡ Ok a
       → (length ps ≡ length es) × (first (set_checks es ps m) ≡ passed) × (a ≡ acceptance es ps)
   unfolding admission admission_by admission_checks
   accepted_tells a is = go (first (admission_checks es ps m)) refl is
@@ -132,17 +132,17 @@ module _ (es ps : List ℕ) (m : ℕ) where
       checked : NoneHolds (admission_checks es ps m) → (length ps ≡ length es) × (first (set_checks es ps m) ≡ passed)
       checked (and h rest) = (lengths_tell (length es) (length ps) h, none_first rest)
 
-      go : (v : Verdict) → first (admission_checks es ps m) ≡ v → admission_by v es ps ≡ accepted a
+      go : (v : Verdict) → first (admission_checks es ps m) ≡ v → admission_by v es ps ≡ Ok a
           → (length ps ≡ length es) × (first (set_checks es ps m) ≡ passed) × (a ≡ acceptance es ps)
       go passed v-is q =
           let both = checked (first_none (admission_checks es ps m) v-is) in
           (both.0, both.1, cc)
       go (refused r) v-is q = absurd (let z : ◌≡◌ {A = ℕ} 0 1 = cc in omega arith)
 
-  pub refused_tells : length ps ≡ length es → (r : Refusal) → admission es ps m ≡ not_admitted r → first (set_checks es ps m) ≡ refused r
+  pub refused_tells : length ps ≡ length es → (r : Refusal) → admission es ps m ≡ Err r → first (set_checks es ps m) ≡ refused r
   unfolding admission_by
   refused_tells same r is = go (first (set_checks es ps m)) (sym (admission_when_same_length es ps m same) ∙ is)
     where
-      go : (v : Verdict) → admission_by v es ps ≡ not_admitted r → v ≡ refused r
+      go : (v : Verdict) → admission_by v es ps ≡ Err r → v ≡ refused r
       go passed q = absurd (let z : ◌≡◌ {A = ℕ} 0 1 = cc in omega arith)
       go (refused r') q = cc

@@ -10,27 +10,25 @@ ghost use Rattle.rule.proofs.Sets.{ValidSet};
 ghost use Rattle.admission.specs.Parts.{acceptance_of, spare_of};
 
 use numbers::Multiple;
-use rule::{Accepted, Admission, Refusal, Spare};
+use rule::{Accepted, Refusal, Weight};
 
 // M, L and the spare of a set on m units, or the first refusal of 1 to 6 that holds.
-pub fn admit(requirements: &[u32], periods: &[u32], m: u32) -> Admission
+pub fn admit(requirements: &[u32], periods: &[u32], m: u32) -> Result<Accepted, Refusal>
     ensures { result ≡ admission requirements.now periods.now m }
 {
     let n = requirements.len();
     if periods.len() != n {
-        return Admission::Refused(Refusal::Lengths);
+        return Err(Refusal::Lengths);
     }
     if n == 0 || n > rule::TASKS_MOST {
-        return Admission::Refused(Refusal::Tasks);
+        return Err(Refusal::Tasks);
     }
     if m == 0 || m > rule::UNITS_MOST {
-        return Admission::Refused(Refusal::Units);
+        return Err(Refusal::Units);
     }
     let place = invalid_place(requirements, periods);
     if place < n {
-        return Admission::Refused(Refusal::Record {
-            place: place as u32,
-        });
+        return Err(Refusal::Record { place: place as u32 });
     }
     admit_valid(requirements, periods, m)
 }
@@ -52,22 +50,22 @@ fn invalid_place(requirements: &[u32], periods: &[u32]) -> usize
 }
 
 // Refusals 5 and 6, and the answer, for a set that passes 1 to 4.
-fn admit_valid(requirements: &[u32], periods: &[u32], m: u32) -> Admission
+fn admit_valid(requirements: &[u32], periods: &[u32], m: u32) -> Result<Accepted, Refusal>
     requires valid_set { ValidSet requirements.now periods.now }
     requires m_le_units_most { m ≤ units_most }
     ensures { result ≡ admission_by (first (multiples periods.now ∷ loads requirements.now periods.now m ∷ [])) requirements.now periods.now }
 {
     let Multiple::At(multiple) = numbers::least_multiple(periods, rule::MULTIPLE_MOST) else {
-        return Admission::Refused(Refusal::Multiple);
+        return Err(Refusal::Multiple);
     };
     let load = load_of(requirements, periods, multiple);
     let given = m * multiple;
     if load > given {
-        return Admission::Refused(Refusal::Load {
+        return Err(Refusal::Load {
             excess: load - given,
         });
     }
-    Admission::Accepted(accept(load, multiple))
+    Ok(accept(load, multiple))
 }
 
 // The load of a set within its limits, whose least common multiple is `multiple`.
@@ -106,15 +104,15 @@ fn accept(load: u32, multiple: u32) -> Accepted
 }
 
 // The spare that takes this room of L, in lowest terms; nobody where there is no room.
-fn spare_of(room: u32, multiple: u32) -> Spare
+fn spare_of(room: u32, multiple: u32) -> Option<Weight>
     ensures { result ≡ spare_of room multiple }
 {
     if room == 0 {
-        return Spare::Nobody;
+        return None;
     }
     let weight = numbers::lowest_terms(room, multiple);
-    Spare::Task {
+    Some(Weight {
         e: weight.above,
         p: weight.below,
-    }
+    })
 }

@@ -1,6 +1,5 @@
 // A case for each entry: a line for what is asked, and a line for the answer.
 use crate::show;
-use rule::Outcome;
 
 // Admission of a set.
 pub fn admission(rt: &impl Print, requirements: &[u32], periods: &[u32], m: u32) {
@@ -36,8 +35,8 @@ pub fn slot(
     show::set(rt, requirements, periods, m);
     show::standing(rt, t, counts);
     match slot::slot(requirements, periods, counts, bytes, m, t) {
-        Outcome::Refused(refusal) => show::refused(rt, refusal),
-        Outcome::Done => show::dealt(rt, bytes, counts, m),
+        Ok(()) => show::dealt(rt, bytes, counts, m),
+        Err(refusal) => show::refused(rt, refusal),
     }
 }
 
@@ -76,7 +75,7 @@ pub fn listing(
     show::set(rt, requirements, periods, m);
     show::standing(rt, t, counts);
     match listing::list(requirements, periods, counts, bytes, m, t) {
-        Outcome::Refused(refusal) => show::refused(rt, refusal),
-        Outcome::Done => show::marks(rt, bytes),
+        Ok(()) => show::marks(rt, bytes),
+        Err(refusal) => show::refused(rt, refusal),
     }
 }

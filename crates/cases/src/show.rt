@@ -2,7 +2,7 @@
 ghost use Rattle.std.specs.Prelude.{◌≡◌, ◌-◌, eqb, length};
 ghost use Rattle.rule.specs.Places.{at, count};
 
-use rule::{Admission, Comparison, Order, Outcome, Ran, Refusal, Spare};
+use rule::{Accepted, Order, Ran, Refusal, Weight};
 
 // Where a write fails, here and in the two functions below, the next one is tried all the same.
 pub fn text(rt: &impl Print, words: &[u8]) {
@@ -115,10 +115,10 @@ fn reason(rt: &impl Print, refusal: Refusal) {
 }
 
 // The answer of admission.
-pub fn admitted(rt: &impl Print, admission: Admission) {
+pub fn admitted(rt: &impl Print, admission: Result<Accepted, Refusal>) {
     match admission {
-        Admission::Refused(refusal) => refused(rt, refusal),
-        Admission::Accepted(accepted) => {
+        Err(refusal) => refused(rt, refusal),
+        Ok(accepted) => {
             answer(rt, b"accepted: ");
             phrase(rt, b"M ", accepted.units);
             phrase(rt, b", L ", accepted.multiple);
@@ -128,10 +128,10 @@ pub fn admitted(rt: &impl Print, admission: Admission) {
     }
 }
 
-fn spare(rt: &impl Print, weight: Spare) {
+fn spare(rt: &impl Print, weight: Option<Weight>) {
     match weight {
-        Spare::Nobody => text(rt, b", no spare\n"),
-        Spare::Task { e, p } => {
+        None => text(rt, b", no spare\n"),
+        Some(Weight { e, p }) => {
             text(rt, b", spare ");
             fraction(rt, e, p);
             text(rt, b"\n");
@@ -140,10 +140,10 @@ fn spare(rt: &impl Print, weight: Spare) {
 }
 
 // The answer of a comparison.
-pub fn compared(rt: &impl Print, comparison: Comparison) {
+pub fn compared(rt: &impl Print, comparison: Result<Order, Refusal>) {
     match comparison {
-        Comparison::Refused(refusal) => refused(rt, refusal),
-        Comparison::Answer(order) => match order {
+        Err(refusal) => refused(rt, refusal),
+        Ok(order) => match order {
             Order::First => answer(rt, b"the first goes first\n"),
             Order::Second => answer(rt, b"the second goes first\n"),
             Order::Tie => answer(rt, b"a tie\n"),
@@ -168,8 +168,8 @@ pub fn ran(rt: &impl Print, ran: Ran, counts: &[u32]) {
     numbers(rt, counts);
     let end = ran.end;
     match end {
-        Outcome::Refused(refusal) => refused(rt, refusal),
-        Outcome::Done => text(rt, b"\n"),
+        Err(refusal) => refused(rt, refusal),
+        Ok(()) => text(rt, b"\n"),
     }
 }
 

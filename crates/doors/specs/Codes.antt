@@ -1,16 +1,10 @@
 -- What a host program is told: each answer as one number, and an accepted set as four.
-use Rattle.std.specs.Prelude.{List, [], ◌∷◌, ℕ, ◌+◌, ◌*◌}
+use Rattle.std.specs.Prelude.{List, [], ◌∷◌, ℕ, ◌+◌, ◌*◌, Err, Ok, Result}
 use Rattle.std.proofs.lemmas.List.Edits.{sets}
 use Rattle.rule.specs.declared.Refusal.{Refusal}
 use Rattle.rule.specs.declared.Order.{Order}
 use Rattle.rule.specs.declared.Order.TheVariants.{First, Second, Tie}
 use Rattle.rule.specs.declared.Accepted.{Accepted}
-use Rattle.rule.specs.declared.Admission.{Admission}
-use Rattle.rule.specs.declared.Admission.TheVariants.{Accepted as accepted, Refused as not_admitted}
-use Rattle.rule.specs.declared.Comparison.{Comparison}
-use Rattle.rule.specs.declared.Comparison.TheVariants.{Answer, Refused as not_compared}
-use Rattle.rule.specs.declared.Outcome.{Outcome}
-use Rattle.rule.specs.declared.Outcome.TheVariants.{Done, Refused}
 use Rattle.rule.specs.declared.Ran.{Ran}
 use Rattle.rule.specs.Layout.{requirement_of, period_of}
 use Rattle.rule.specs.Answers.{number_of, Carried, nothing, place, excess, carried_by}
@@ -30,9 +24,9 @@ code_of r = number_of r * 0x100000000 + amount (carried_by r)
 -- ---- answers
 
 -- Done is 0. No refusal has the number 0, so that no refusal is mistaken for it.
-abbrev pub outcome_code : Outcome → ℕ
-outcome_code Done = 0
-outcome_code (Refused r) = code_of r
+abbrev pub outcome_code : Result Unit Refusal → ℕ
+outcome_code (Ok tt) = 0
+outcome_code (Err r) = code_of r
 
 -- A run: the slots done times 2^40, and in the 40 bits below how it ended.
 abbrev pub ran_code : Ran → ℕ
@@ -45,14 +39,14 @@ order_code Second = 1
 order_code Tie = 2
 
 -- The order, or a refusal, whose code is 2^32 or more.
-abbrev pub comparison_code : Comparison → ℕ
-comparison_code (Answer o) = order_code o
-comparison_code (not_compared r) = code_of r
+abbrev pub comparison_code : Result Order Refusal → ℕ
+comparison_code (Ok o) = order_code o
+comparison_code (Err r) = code_of r
 
 -- Accepted is 0; what was accepted is stored.
-abbrev pub admission_code : Admission → ℕ
-admission_code (accepted a) = 0
-admission_code (not_admitted r) = code_of r
+abbrev pub admission_code : Result Accepted Refusal → ℕ
+admission_code (Ok a) = 0
+admission_code (Err r) = code_of r
 
 -- ---- what admission stores
 
@@ -62,6 +56,6 @@ four a = a.units ∷ a.multiple ∷ requirement_of a.spare ∷ period_of a.spare
 
 -- The lent list after an admission: the four stored from place 0 on, as far as there is room, and "Every refusal leaves every lent list
 -- unchanged."
-abbrev pub answer_after : Admission → List ℕ → List ℕ
-answer_after (accepted a) places = sets places 0 (four a)
-answer_after (not_admitted r) places = places
+abbrev pub answer_after : Result Accepted Refusal → List ℕ → List ℕ
+answer_after (Ok a) places = sets places 0 (four a)
+answer_after (Err r) places = places

@@ -12,7 +12,7 @@ ghost use Rattle.records.specs.Door.{requirements_of, periods_of, counts_of, wit
 ghost use Rattle.doors.specs.Codes.{amount, code_of, outcome_code, ran_code, order_code, comparison_code, admission_code, four, answer_after};
 
 use records::Task;
-use rule::{Accepted, Admission, Comparison, Order, Outcome, Ran, Refusal, Spare};
+use rule::{Accepted, Order, Ran, Refusal, Weight};
 
 // What a refusal carries, 0 for nothing.
 fn amount_of(refusal: Refusal) -> u32
@@ -41,13 +41,13 @@ fn code_of(refusal: Refusal) -> u64
 }
 
 // 0 for done.
-fn outcome_code(outcome: Outcome) -> u64
+fn outcome_code(outcome: Result<(), Refusal>) -> u64
     ensures code { result ≡ outcome_code outcome }
     ensures room { result < 0x10000000000 }
 {
     match outcome {
-        Outcome::Done => 0,
-        Outcome::Refused(refusal) => code_of(refusal),
+        Ok(()) => 0,
+        Err(refusal) => code_of(refusal),
     }
 }
 
@@ -72,32 +72,32 @@ fn order_code(order: Order) -> u64
 }
 
 // An answer, or a refusal: its code is 2^32 or more, so that the two are told apart.
-fn comparison_code(comparison: Comparison) -> u64
+fn comparison_code(comparison: Result<Order, Refusal>) -> u64
     ensures { result ≡ comparison_code comparison }
 {
     match comparison {
-        Comparison::Answer(order) => order_code(order),
-        Comparison::Refused(refusal) => code_of(refusal),
+        Ok(order) => order_code(order),
+        Err(refusal) => code_of(refusal),
     }
 }
 
 // The spare's requirement, 0 if there is none.
-fn requirement_of(spare: Spare) -> u32
+fn requirement_of(spare: Option<Weight>) -> u32
     ensures { result ≡ requirement_of spare }
 {
     match spare {
-        Spare::Nobody => 0,
-        Spare::Task { e, p: _ } => e,
+        None => 0,
+        Some(Weight { e, p: _ }) => e,
     }
 }
 
 // The spare's period, 0 if there is none.
-fn period_of(spare: Spare) -> u32
+fn period_of(spare: Option<Weight>) -> u32
     ensures { result ≡ period_of spare }
 {
     match spare {
-        Spare::Nobody => 0,
-        Spare::Task { e: _, p } => p,
+        None => 0,
+        Some(Weight { e: _, p }) => p,
     }
 }
 
@@ -122,16 +122,16 @@ fn put_accepted(accepted: Accepted, answer: &mut [u32])
 }
 
 // What either door answers to an admission: a refusal leaves the list as it was.
-fn put_admission(admission: Admission, answer: &mut [u32]) -> u64
+fn put_admission(admission: Result<Accepted, Refusal>, answer: &mut [u32]) -> u64
     ensures code { result ≡ admission_code admission }
     ensures answer { answer.new ≡ answer_after admission answer.old }
 {
     match admission {
-        Admission::Accepted(accepted) => {
+        Ok(accepted) => {
             put_accepted(accepted, answer);
             0
         }
-        Admission::Refused(refusal) => code_of(refusal),
+        Err(refusal) => code_of(refusal),
     }
 }
 

@@ -1,6 +1,7 @@
 -- Refusal 6 for tables of any length from L up. A table for ever is one of every length, so that a set that no table of some length serves
 -- is refused by the theorem of tables for ever (RefusalSix.antt); and the slots 0 to L-1 of a table that long, counted by tasks, are the load,
 -- and by slots at most m·L. Assumes nothing.
+use Rattle.std.specs.Prelude.{Ok}
 use mathlib.Core.Path.{◌≡◌, refl, sym, subst}
 use mathlib.Core.Logic.{◌↔◌}
 use mathlib.Core.Bool.{Bool}
@@ -11,7 +12,6 @@ use native.Mathlib.Omega.{arith}
 use borrow.Author.Tests.{ltb-true, ltb-false, not-false}
 use lib.ListN.{length}
 use Rattle.rule.specs.declared.Accepted.{Accepted}
-use Rattle.rule.specs.declared.Admission.TheVariants.{Accepted as accepted}
 use Rattle.rule.specs.declared.Refusal.{Refusal}
 use Rattle.rule.specs.declared.Refusal.TheVariants.{Load}
 use Rattle.rule.specs.Answers.{number_of}
@@ -123,6 +123,6 @@ module _ (es ps : List ℕ) (m : ℕ) (pass : PassesOneToFive es ps m) (long : H
   )
 
 -- The run of a set that admission accepts serves it, as far as one likes.
-pub accepted_served_any_length : (es ps : List ℕ) (m : ℕ) (a : Accepted) → admission es ps m ≡ accepted a → (long : HowLong)
+pub accepted_served_any_length : (es ps : List ℕ) (m : ℕ) (a : Accepted) → admission es ps m ≡ Ok a → (long : HowLong)
     → TableOf long exactly es ps m (runs_from_start es ps)
 accepted_served_any_length es ps m a q = of_any_length es ps m (runs_from_start es ps) (accepted_served es ps m a q)

@@ -1,5 +1,6 @@
 -- One slot of an accepted set whose counts have a plan: every lag is within its bounds, at most M are urgent and at least M are not
 -- tnegru, so the choice follows the rule, and the counts after it have a plan again. Assumes nothing.
+use Rattle.std.specs.Prelude.{None, Option, Some}
 use mathlib.Core.Path.{◌≡◌, refl, sym, ap, ◌∙◌, subst}
 use mathlib.Core.Logic.{◌≢◌}
 use mathlib.Core.Bool.{Bool, true, false, not, true≢false}
@@ -9,8 +10,7 @@ use native.Mathlib.Omega.{arith}
 use borrow.Author.Tests.{leb-true, le-leb, lt-leb, not-false}
 use lib.Dec.{leb}
 use lib.ListN.{length}
-use Rattle.rule.specs.declared.Spare.{Spare}
-use Rattle.rule.specs.declared.Spare.TheVariants.{Nobody, Task}
+use Rattle.rule.specs.declared.Weight.{Weight}
 use Rattle.rule.specs.declared.Order.{Order}
 use Rattle.rule.specs.declared.Order.TheVariants.{First}
 use Rattle.rule.specs.Places.{at, bit, sum}
@@ -69,15 +69,15 @@ module _ (es ps : List ℕ) (m : ℕ) (A : AcceptedSet es ps m) (ks : List ℕ) 
   all_sum = count_sum (size es ps) M (multiple ps) e p (weight_at es ps) tasks t k K P
 
   -- With no spare the counts add up to M·t, with one to no more.
-  pub counts_whole : spare es ps ≡ Nobody → sum (length ks) (at ks) ≡ M * t
+  pub counts_whole : spare es ps ≡ None → sum (length ks) (at ks) ≡ M * t
   counts_whole q = sym task_sum ∙ (sum_places es ps k).0 q ∙ all_sum
 
   pub counts_fit : sum (length ks) (at ks) ≤ M * t
   counts_fit = go (spare es ps) refl
     where
-      go : (s : Spare) → spare es ps ≡ s → sum (length ks) (at ks) ≤ M * t
-      go Nobody q = omega (arith, counts_whole q)
-      go (Task e p) q = omega (arith, task_sum, all_sum, (sum_places es ps k).1 e p q, count_spare es ps ks t)
+      go : (s : Option Weight) → spare es ps ≡ s → sum (length ks) (at ks) ≤ M * t
+      go None q = omega (arith, counts_whole q)
+      go (Some w) q = omega (arith, task_sum, all_sum, (sum_places es ps k).1 w.e w.p q, count_spare es ps ks t)
 
   -- ---- each entry of the field
 

@@ -1,13 +1,13 @@
 -- An accepted set is a set of tasks that fill M units, the spare among them, with L grains to the slot: each weight is e·L/p, the
 -- spare's the room, and they add up to M·L. Assumes nothing.
+use Rattle.std.specs.Prelude.{None, Option, Some}
 use mathlib.Core.Path.{◌≡◌, refl, sym, ◌∙◌}
 use mathlib.Core.List.{List}
 use Prim.Native.Nat.{ℕ, ◌*◌, ◌/◌, ◌<◌}
 use native.Mathlib.Nat.{mul_comm, mul-div_cancel', dvd-mul_left_of_dvd}
 use native.Mathlib.Omega.{arith}
 use lib.ListN.{length}
-use Rattle.rule.specs.declared.Spare.{Spare}
-use Rattle.rule.specs.declared.Spare.TheVariants.{Nobody, Task}
+use Rattle.rule.specs.declared.Weight.{Weight}
 use Rattle.rule.specs.Places.{at, sum}
 use Rattle.rule.specs.Sets.{multiple, load, units_in_use, room, spare}
 use Rattle.rule.proofs.Places.{sum_ext}
@@ -31,16 +31,16 @@ module _ (es ps : List ℕ) where
   -- ---- an accepted set fills its units
 
   module _ (m : ℕ) (A : AcceptedSet es ps m) where
-    full : (s : Spare) → spare es ps ≡ s → sum (size es ps) weight_at ≡ units_in_use es ps * multiple ps
+    full : (s : Option Weight) → spare es ps ≡ s → sum (size es ps) weight_at ≡ units_in_use es ps * multiple ps
     unfolding load
     full s q = go s q
       where
         tasks : sum (length es) weight_at ≡ load es ps
         tasks = sum_ext (length es) weight_at (λ i. at es i * multiple ps / at ps i) (λ i l. weight_task i l)
 
-        go : (s : Spare) → spare es ps ≡ s → sum (size es ps) weight_at ≡ units_in_use es ps * multiple ps
-        go Nobody q = sym ((sum_places es ps weight_at).0 q) ∙ tasks ∙ A.no_spare q
-        go (Task e p) q = omega (arith, (sum_places es ps weight_at).1 e p q, tasks, weight_spare, A.load_and_room)
+        go : (s : Option Weight) → spare es ps ≡ s → sum (size es ps) weight_at ≡ units_in_use es ps * multiple ps
+        go None q = sym ((sum_places es ps weight_at).0 q) ∙ tasks ∙ A.no_spare q
+        go (Some w) q = omega (arith, (sum_places es ps weight_at).1 w.e w.p q, tasks, weight_spare, A.load_and_room)
 
     pub fills : Tasks (size es ps) (units_in_use es ps) (multiple ps) (requirement_at es ps) (period_at es ps) weight_at
     fills =

@@ -1,5 +1,6 @@
 -- The theorems at sets with numbers in them, so that nobody need ask whether their hypotheses can be met: the paper's set, P4's set
 -- with no spare, a set of one task, and P5's set that no table serves. Assumes nothing.
+use Rattle.std.specs.Prelude.{Err, None, Ok, Option, Some}
 use mathlib.Core.Path.{◌≡◌, refl}
 use mathlib.Core.Bool.{Bool, false}
 use mathlib.Core.List.{List, [], ◌∷◌}
@@ -10,15 +11,12 @@ use lib.ListN.{length}
 use Rattle.numbers.specs.Divide.{euclid, gcd, lowest_terms}
 use Rattle.numbers.specs.Multiple.{lcm, lcm_all}
 use Rattle.numbers.specs.Round.{round_up}
-use Rattle.rule.specs.declared.Spare.{Spare}
-use Rattle.rule.specs.declared.Spare.TheVariants.{Nobody, Task}
+use Rattle.rule.specs.declared.Weight.{Weight}
 use Rattle.rule.specs.declared.Accepted.{Accepted}
-use Rattle.rule.specs.declared.Admission.TheVariants.{Accepted as accepted, Refused as not_admitted}
 use Rattle.rule.specs.declared.Refusal.TheVariants.{Load}
-use Rattle.rule.specs.declared.Outcome.TheVariants.{Done}
 use Rattle.rule.specs.Limits.{bounded_by, time_most}
 use Rattle.rule.specs.Places.{at, sum, count, lowest}
-use Rattle.rule.specs.Sets.{multiple, load, units_in_use, room, spare, field}
+use Rattle.rule.specs.Sets.{multiple, load, units_in_use, room, spare, field, weight}
 use Rattle.rule.specs.Slot.{chosen}
 use Rattle.rule.specs.Refusals.{first, differ, invalid_place, set_checks, admission_checks, run_checks}
 use Rattle.rule.specs.Outcomes.{admission_by, admission, acceptance, slot, run}
@@ -40,30 +38,30 @@ paper_es = 1 ∷ 2 ∷ 5 ∷ 8 ∷ []
 abbrev paper_ps : List ℕ
 paper_ps = 3 ∷ 4 ∷ 7 ∷ 11 ∷ []
 
-abbrev set : ℕ → ℕ → Spare → Accepted
+abbrev set : ℕ → ℕ → Option Weight → Accepted
 set m l s = record { units = m; multiple = l; spare = s }
 
 -- What admission says of the four sets.
-admissions : (admission paper_es paper_ps 3 ≡ accepted (set 3 924 (Task 335 462)))
-    × (admission (1 ∷ 1 ∷ []) (2 ∷ 2 ∷ []) 1 ≡ accepted (set 1 2 Nobody))
-    × (admission (1 ∷ []) (2 ∷ []) 1 ≡ accepted (set 1 2 (Task 1 2)))
-    × (admission (2 ∷ 2 ∷ []) (3 ∷ 3 ∷ []) 1 ≡ not_admitted (Load (load (2 ∷ 2 ∷ []) (3 ∷ 3 ∷ []) - 1 * multiple (3 ∷ 3 ∷ []))))
+admissions : (admission paper_es paper_ps 3 ≡ Ok (set 3 924 (Some (weight 335 462))))
+    × (admission (1 ∷ 1 ∷ []) (2 ∷ 2 ∷ []) 1 ≡ Ok (set 1 2 None))
+    × (admission (1 ∷ []) (2 ∷ []) 1 ≡ Ok (set 1 2 (Some (weight 1 2))))
+    × (admission (2 ∷ 2 ∷ []) (3 ∷ 3 ∷ []) 1 ≡ Err (Load (load (2 ∷ 2 ∷ []) (3 ∷ 3 ∷ []) - 1 * multiple (3 ∷ 3 ∷ []))))
 unfolding admission admission_by acceptance first differ invalid_place set_checks admission_checks multiple load units_in_use room spare bounded_by sum lowest euclid gcd lowest_terms lcm lcm_all round_up
 admissions = (refl, refl, refl, refl)
 
 -- The paper's set is fair at every time, and none of its slots is refused.
 pub paper_fair : (t : ℕ) → FairAt paper_es paper_ps 3 t (counts_at paper_es paper_ps t)
-paper_fair = never_stuck paper_es paper_ps 3 (set 3 924 (Task 335 462)) admissions.0
+paper_fair = never_stuck paper_es paper_ps 3 (set 3 924 (Some (weight 335 462))) admissions.0
 
-pub paper_done : (t : ℕ) (bytes : List ℕ) → length bytes ≡ 4 → t ≤ time_most → (slot paper_es paper_ps (stepped paper_es paper_ps 3 t) bytes 3 t).answer ≡ Done
-paper_done = never_refused paper_es paper_ps 3 (set 3 924 (Task 335 462)) admissions.0
+pub paper_done : (t : ℕ) (bytes : List ℕ) → length bytes ≡ 4 → t ≤ time_most → (slot paper_es paper_ps (stepped paper_es paper_ps 3 t) bytes 3 t).answer ≡ Ok tt
+paper_done = never_refused paper_es paper_ps 3 (set 3 924 (Some (weight 335 462))) admissions.0
 
 -- So is P4's set, which has no spare, and a set of one task.
 pub full_fair : (t : ℕ) → FairAt (1 ∷ 1 ∷ []) (2 ∷ 2 ∷ []) 1 t (counts_at (1 ∷ 1 ∷ []) (2 ∷ 2 ∷ []) t)
-full_fair = never_stuck (1 ∷ 1 ∷ []) (2 ∷ 2 ∷ []) 1 (set 1 2 Nobody) admissions.1
+full_fair = never_stuck (1 ∷ 1 ∷ []) (2 ∷ 2 ∷ []) 1 (set 1 2 None) admissions.1
 
 pub one_task_fair : (t : ℕ) → FairAt (1 ∷ []) (2 ∷ []) 1 t (counts_at (1 ∷ []) (2 ∷ []) t)
-one_task_fair = never_stuck (1 ∷ []) (2 ∷ []) 1 (set 1 2 (Task 1 2)) admissions.2
+one_task_fair = never_stuck (1 ∷ []) (2 ∷ []) 1 (set 1 2 (Some (weight 1 2))) admissions.2
 
 -- No table serves 2/3 and 2/3 on one unit.
 five_passed : PassesOneToFive (2 ∷ 2 ∷ []) (3 ∷ 3 ∷ []) 1
@@ -89,7 +87,7 @@ short_table = record { few = λ u h. zero-le; served = none_ends }
 
 -- The paper's set has a table of every length. P4's has one that is made by hand, of 3 slots: its second period does not end there.
 pub paper_table : (s : ℕ) → FiniteTable s paper_es paper_ps 3 (runs_from_start paper_es paper_ps)
-paper_table = accepted_served_finite paper_es paper_ps 3 (set 3 924 (Task 335 462)) admissions.0
+paper_table = accepted_served_finite paper_es paper_ps 3 (set 3 924 (Some (weight 335 462))) admissions.0
 
 pub table_by_hand : FiniteTable 3 (1 ∷ 1 ∷ []) (2 ∷ 2 ∷ []) 1 eqb
 unfolding sum

@@ -1,6 +1,7 @@
 -- Never stuck, always fair: an accepted set, run from time 0 with counts 0, is never refused by 8 or 9, never runs more tasks than
 -- units, and every task, the spare included, has at every time had e·t/p slots, rounded down or up. There is a plan at every time:
 -- the even lines at 0, and one after each slot. Assumes nothing.
+use Rattle.std.specs.Prelude.{Ok}
 use mathlib.Core.Path.{◌≡◌, refl, sym, ap, ◌∙◌, subst}
 use mathlib.Core.Logic.{◌⊎◌, inl, inr, ⊎_elim}
 use mathlib.Core.Bool.{false, not, cond}
@@ -13,8 +14,6 @@ use lib.Dec.{ltb, eqb}
 use lib.IntN.{pos}
 use lib.ListN.{length}
 use Rattle.rule.specs.declared.Accepted.{Accepted}
-use Rattle.rule.specs.declared.Admission.TheVariants.{Accepted as accepted}
-use Rattle.rule.specs.declared.Outcome.TheVariants.{Done}
 use Rattle.rule.specs.Limits.{time_most}
 use Rattle.rule.specs.Places.{at, bit, sum, count}
 use Rattle.rule.specs.Task.{fair}
@@ -172,7 +171,7 @@ module _ (es ps : List ℕ) (m : ℕ) (A : AcceptedSet es ps m) where
 
   pub slot_done : (t : ℕ) (bytes : List ℕ) → length bytes ≡ length es → t ≤ time_most → first (set_checks es ps m) ≡ passed
       → slot es ps (counts_at es ps t) bytes m t
-      ≡ record { answer = Done; counts = counts_at es ps (suc t); bytes = bytes_after es ps (counts_at es ps t) t }
+      ≡ record { answer = Ok tt; counts = counts_at es ps (suc t); bytes = bytes_after es ps (counts_at es ps t) t }
   unfolding slot slot_by counts_at
   slot_done t bytes b h pass = rw (slot_passes t bytes b h pass)
 
@@ -186,11 +185,11 @@ module _ (es ps : List ℕ) (m : ℕ) (A : AcceptedSet es ps m) where
 -- ---- the theorem
 
 -- An accepted set has passed every check.
-accepted_passes : (es ps : List ℕ) (m : ℕ) (a : Accepted) → admission es ps m ≡ accepted a → NoneHolds (admission_checks es ps m)
+accepted_passes : (es ps : List ℕ) (m : ℕ) (a : Accepted) → admission es ps m ≡ Ok a → NoneHolds (admission_checks es ps m)
 unfolding admission admission_by
 accepted_passes es ps m a q = first_none (admission_checks es ps m) (go (first (admission_checks es ps m)) q)
   where
-    go : (v : Verdict) → admission_by v es ps ≡ accepted a → v ≡ passed
+    go : (v : Verdict) → admission_by v es ps ≡ Ok a → v ≡ passed
     go passed q = refl
     go (refused r) q = absurd (let z : ◌≡◌ {A = ℕ} 0 1 = cc in omega arith)
 
@@ -199,7 +198,7 @@ pub set_passes : (es ps : List ℕ) (m : ℕ) → NoneHolds (admission_checks es
 unfolding admission_checks
 set_passes es ps m (and l rest) = ((same_length (length es) (length ps) [] l).0, none_first rest)
 
-module _ (es ps : List ℕ) (m : ℕ) (a : Accepted) (q : admission es ps m ≡ accepted a) where
+module _ (es ps : List ℕ) (m : ℕ) (a : Accepted) (q : admission es ps m ≡ Ok a) where
   -- What admission accepts has the laws of an accepted set.
   pub checks : (length ps ≡ length es) × (first (set_checks es ps m) ≡ passed)
   checks = set_passes es ps m (accepted_passes es ps m a q)
@@ -212,7 +211,7 @@ module _ (es ps : List ℕ) (m : ℕ) (a : Accepted) (q : admission es ps m ≡ 
   never_stuck = fair_always es ps m set
 
   -- Up to the calendar's end, stepped by the slot's own outcome with the counts that it hands back: every slot is done.
-  pub never_refused : (t : ℕ) (bytes : List ℕ) → length bytes ≡ length es → t ≤ time_most → (slot es ps (stepped es ps m t) bytes m t).answer ≡ Done
+  pub never_refused : (t : ℕ) (bytes : List ℕ) → length bytes ≡ length es → t ≤ time_most → (slot es ps (stepped es ps m t) bytes m t).answer ≡ Ok tt
   never_refused t bytes b h =
       ap (λ ks. (slot es ps ks bytes m t).answer) (stepped_counts es ps m set t (omega arith) checks.1)
       ∙ ap (λ r. r.answer) (slot_done es ps m set t bytes b h checks.1)

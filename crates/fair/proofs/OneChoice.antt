@@ -1,5 +1,6 @@
 -- One right choice: for records, time and counts that a slot does not refuse, every choice with the properties of the rule (all
 -- urgent tasks, no tnegru one, contenders in order, M in all) is the outcome's. Assumes nothing.
+use Rattle.std.specs.Prelude.{Ok}
 use mathlib.Core.Path.{◌≡◌, sym, ap, ◌∙◌, subst}
 use mathlib.Core.Bool.{Bool, false}
 use mathlib.Core.List.{List}
@@ -7,7 +8,6 @@ use Prim.Native.Nat.{ℕ, ◌+◌, ◌<◌}
 use borrow.Author.Tests.{ltb-false}
 use lib.Dec.{ltb}
 use lib.ListN.{length}
-use Rattle.rule.specs.declared.Outcome.TheVariants.{Done}
 use Rattle.rule.specs.Places.{at, bit, each}
 use Rattle.rule.specs.Sets.{units_in_use, field}
 use Rattle.rule.specs.Slot.{urgents, not_tnegrus, chosen}
@@ -20,7 +20,7 @@ use Rattle.rule.proofs.Slots.{slot_passed, done_slot}
 use Rattle.rule.proofs.Choice.{IsChoice, chosen_is_choice, one_choice}
 use Rattle.rule.proofs.Placed.{task_place, field_size}
 
-module _ (es ps ks bytes : List ℕ) (m t : ℕ) (q : (slot es ps ks bytes m t).answer ≡ Done) where
+module _ (es ps ks bytes : List ℕ) (m t : ℕ) (q : (slot es ps ks bytes m t).answer ≡ Ok tt) where
   -- ---- it chose by the rule
 
   class_check : NoneHolds (slot_checks es ps ks bytes m t) → (classes es ps ks t).holds ≡ false
@@ -46,11 +46,11 @@ module _ (es ps ks bytes : List ℕ) (m t : ℕ) (q : (slot es ps ks bytes m t).
 
     -- The bytes and the counts that the slot hands back are that choice's.
     pub one_right_choice : slot es ps ks bytes m t
-        ≡ record { answer = Done; counts = each (length es) (λ i. at ks i + bit (ch i)); bytes = each (length es) (λ i. bit (ch i)) }
+        ≡ record { answer = Ok tt; counts = each (length es) (λ i. at ks i + bit (ch i)); bytes = each (length es) (λ i. bit (ch i)) }
     unfolding counts_after bytes_after
     one_right_choice =
         done_slot es ps ks bytes m t q
-        ∙ ap (λ bs. record { answer = Done; counts = counts_after es ps ks t; bytes = bs })
+        ∙ ap (λ bs. record { answer = Ok tt; counts = counts_after es ps ks t; bytes = bs })
         (each_ext (length es) (λ i. bit (runs_at es ps ks t i)) (λ i. bit (ch i)) (λ i l. ap bit (sym (same_task i l))))
-        ∙ ap (λ cs. record { answer = Done; counts = cs; bytes = each (length es) (λ i. bit (ch i)) })
+        ∙ ap (λ cs. record { answer = Ok tt; counts = cs; bytes = each (length es) (λ i. bit (ch i)) })
         (each_ext (length es) (λ i. at ks i + bit (runs_at es ps ks t i)) (λ i. at ks i + bit (ch i)) (λ i l. ap (λ b. at ks i + bit b) (sym (same_task i l))))

@@ -1,6 +1,7 @@
 -- Refusal 6 is exact: among sets that pass 1 to 5, it is given exactly when no table of slots, however made, could serve the set.
 -- A table's slots 0 to L-1, counted by tasks, are the load, and by slots at most m·L; and where the load is no more than that, the
 -- set's own run from time 0 is a table. Assumes nothing.
+use Rattle.std.specs.Prelude.{Err, Ok, Result}
 use mathlib.Core.Path.{◌≡◌, refl, sym, ap, ◌∙◌, subst}
 use mathlib.Core.Logic.{◌↔◌}
 use mathlib.Core.Bool.{Bool, true, false, cond}
@@ -11,10 +12,9 @@ use native.Mathlib.Omega.{arith}
 use borrow.Author.Tests.{ltb-true, ltb-false, not-false}
 use lib.Dec.{ltb}
 use lib.ListN.{length, take}
+use Rattle.rule.specs.declared.Refusal.{Refusal}
 use Rattle.rule.specs.declared.Refusal.TheVariants.{Load}
-use Rattle.rule.specs.declared.Admission.{Admission}
 use Rattle.rule.specs.declared.Accepted.{Accepted}
-use Rattle.rule.specs.declared.Admission.TheVariants.{Accepted as accepted, Refused as not_admitted}
 use Rattle.rule.specs.Places.{at, bit, sum, count}
 use Rattle.rule.specs.Sets.{multiple, load}
 use Rattle.rule.specs.Refusals.{passed, refused, first, loads, invalid_place, set_checks, admission_checks}
@@ -114,24 +114,24 @@ module _ (es ps : List ℕ) (m : ℕ) (pass : PassesOneToFive es ps m) where
   unfolding admission admission_checks set_checks
   judged = ap (λ v. admission_by v es ps) (first_append (take 5 (admission_checks es ps m)) (loads es ps m ∷ []) (none_first pass))
 
-  abbrev verdict : Bool → Admission
+  abbrev verdict : Bool → Result Accepted Refusal
   verdict b = admission_by (cond b (refused (Load (load es ps - m * multiple ps))) passed) es ps
 
   -- Where 6 is given the load is above m·L.
-  over : admission es ps m ≡ not_admitted (Load (load es ps - m * multiple ps)) → m * multiple ps < load es ps
+  over : admission es ps m ≡ Err (Load (load es ps - m * multiple ps)) → m * multiple ps < load es ps
   unfolding first admission_by
   over q = go (ltb (m * multiple ps) (load es ps)) refl (sym judged ∙ q)
     where
-      go : (b : Bool) → ltb (m * multiple ps) (load es ps) ≡ b → verdict b ≡ not_admitted (Load (load es ps - m * multiple ps)) → m * multiple ps < load es ps
+      go : (b : Bool) → ltb (m * multiple ps) (load es ps) ≡ b → verdict b ≡ Err (Load (load es ps - m * multiple ps)) → m * multiple ps < load es ps
       go true h q = ltb-true (m * multiple ps) (load es ps) h
       go false h q = absurd (let z : ◌≡◌ {A = ℕ} 0 1 = cc in omega arith)
 
   -- No table serves a set that 6 refuses, not even one that may give a task more than its share.
-  pub refused_none_serves : admission es ps m ≡ not_admitted (Load (load es ps - m * multiple ps)) → (runs : ℕ → ℕ → Bool) → AtLeast es ps m runs → ⊥
+  pub refused_none_serves : admission es ps m ≡ Err (Load (load es ps - m * multiple ps)) → (runs : ℕ → ℕ → Bool) → AtLeast es ps m runs → ⊥
   refused_none_serves q runs T = omega (arith, over q, table_load es ps m (period_divides es ps (valid_of es ps m pass)) runs T)
 
   -- "refusal 6 is given exactly when no table of slots, however made, could serve the set"; it carries the excess of the load.
-  pub refusal_six_exact : (admission es ps m ≡ not_admitted (Load (load es ps - m * multiple ps))) ↔ ((runs : ℕ → ℕ → Bool) → Table es ps m runs → ⊥)
+  pub refusal_six_exact : (admission es ps m ≡ Err (Load (load es ps - m * multiple ps))) ↔ ((runs : ℕ → ℕ → Bool) → Table es ps m runs → ⊥)
   unfolding first admission_by
   refusal_six_exact = (
     λ q runs T. refused_none_serves q runs (at_least es ps m runs T),
@@ -139,10 +139,10 @@ module _ (es ps : List ℕ) (m : ℕ) (pass : PassesOneToFive es ps m) where
   )
     where
       accepts : (b : Bool) → ltb (m * multiple ps) (load es ps) ≡ b → ((runs : ℕ → ℕ → Bool) → Table es ps m runs → ⊥)
-          → verdict b ≡ not_admitted (Load (load es ps - m * multiple ps))
+          → verdict b ≡ Err (Load (load es ps - m * multiple ps))
       accepts true h nobody = refl
       accepts false h nobody = let A = accepted_of es ps m pass h in absurd (nobody (runs es ps m A) (run_is_table es ps m A))
 
 -- The run of a set that admission accepts serves it.
-pub accepted_served : (es ps : List ℕ) (m : ℕ) (a : Accepted) → admission es ps m ≡ accepted a → Table es ps m (λ i u. runs_at es ps (counts_at es ps u) u i)
+pub accepted_served : (es ps : List ℕ) (m : ℕ) (a : Accepted) → admission es ps m ≡ Ok a → Table es ps m (λ i u. runs_at es ps (counts_at es ps u) u i)
 accepted_served es ps m a q = run_is_table es ps m (set es ps m a q)

@@ -1,5 +1,6 @@
 -- A run of an accepted set is never refused: from the counts that the slots up to t hand back, so many slots more are all done, as
 -- long as the calendar lasts. Assumes nothing.
+use Rattle.std.specs.Prelude.{Ok}
 use mathlib.Core.Path.{◌≡◌, refl, sym, ap, ◌∙◌}
 use mathlib.Core.List.{List}
 use Prim.Native.Nat.{ℕ, zero, suc, ◌+◌, ◌*◌, ◌≤◌}
@@ -9,8 +10,6 @@ use borrow.Author.Tests.{le-ltb, eq-eqb}
 use lib.ListN.{length, take, drop, length-drop}
 use lib.Seq.{length-take-le}
 use Rattle.rule.specs.declared.Accepted.{Accepted}
-use Rattle.rule.specs.declared.Admission.TheVariants.{Accepted as accepted}
-use Rattle.rule.specs.declared.Outcome.TheVariants.{Done}
 use Rattle.rule.specs.Limits.{slots_most, time_most}
 use Rattle.rule.specs.Refusals.{passed, first, differ, set_checks, run_checks}
 use Rattle.rule.specs.Outcomes.{admission, RunAfter, slots_from, after_slot, run_by, run}
@@ -21,7 +20,7 @@ use Rattle.fair.proofs.NeverStuck.{length_counts, slot_done, stepped_counts, che
 -- All s slots were done, and these are the counts.
 pub record AllDone (s : ℕ) (ks : List ℕ) (r : RunAfter) : Type 0 where
   pub done : r.answer.done ≡ s
-  pub end : r.answer.end ≡ Done
+  pub end : r.answer.end ≡ Ok tt
   pub counts : r.counts ≡ ks
 
 module _ (es ps : List ℕ) (m : ℕ) (A : AcceptedSet es ps m) (pass : first (set_checks es ps m) ≡ passed) where
@@ -37,7 +36,7 @@ module _ (es ps : List ℕ) (m : ℕ) (A : AcceptedSet es ps m) (pass : first (s
       (record { done = ap suc R.done; end = R.end; counts = R.counts ∙ ap (counts_at es ps) later })
 
 -- "refusals 8 and 9 never come", of a run.
-module _ (es ps : List ℕ) (m : ℕ) (a : Accepted) (q : admission es ps m ≡ accepted a) where
+module _ (es ps : List ℕ) (m : ℕ) (a : Accepted) (q : admission es ps m ≡ Ok a) where
   pub run_never_refused : (s t : ℕ) (log : List ℕ) → s ≤ slots_most → t + s ≤ suc time_most → length log ≡ s * length es
       → AllDone s (stepped es ps m (t + s)) (run s es ps (stepped es ps m t) log m t)
   unfolding run run_by run_checks first differ

@@ -1,5 +1,6 @@
 -- A run is its slots: it equals so many single slots up to the first refusal, its log part by part, its counts, and how it ended. By
 -- induction on the slots: a done one writes its part, and the rest is a run on the rest of the log. Assumes nothing.
+use Rattle.std.specs.Prelude.{Err, Ok, Result}
 use mathlib.Core.Path.{◌≡◌, refl, sym, ap, ◌∙◌}
 use mathlib.Core.Logic.{◌⊎◌, inl, inr, ⊎_elim}
 use mathlib.Core.Bool.{not}
@@ -11,8 +12,6 @@ use lib.Dec.{eqb}
 use lib.ListN.{length, take, drop, length-append, length-drop}
 use lib.Seq.{take_at, drop-append-add, drop-drop}
 use borrow.Author.Tests.{eqb-true, not-false}
-use Rattle.rule.specs.declared.Outcome.{Outcome}
-use Rattle.rule.specs.declared.Outcome.TheVariants.{Done, Refused}
 use Rattle.rule.specs.declared.Refusal.{Refusal}
 use Rattle.rule.specs.Refusals.{passed, first, differ, run_checks}
 use Rattle.rule.specs.Outcomes.{SlotAfter, slot, RunAfter, stopped, one_more, after_slot, slots_from, run_by, run}
@@ -27,7 +26,7 @@ module _ (es ps : List ℕ) (m : ℕ) where
 
   -- ---- a run that stops here
 
-  stops : (s t : ℕ) (ks log : List ℕ) (o : Outcome) → ((0 ≡ s) × (o ≡ Done)) ⊎ ((x : Refusal) × (0 < s) × ((slot_no 0 es ps m t ks log).answer ≡ Refused x) × (o ≡ Refused x))
+  stops : (s t : ℕ) (ks log : List ℕ) (o : Result Unit Refusal) → ((0 ≡ s) × (o ≡ Ok tt)) ⊎ ((x : Refusal) × (0 < s) × ((slot_no 0 es ps m t ks log).answer ≡ Err x) × (o ≡ Err x))
       → IsSlots s es ps m t ks log (stopped o ks log)
   unfolding counts_no
   stops s t ks log o end =
@@ -43,7 +42,7 @@ module _ (es ps : List ℕ) (m : ℕ) where
 
   -- ---- a slot that was done, and the rest
 
-  module _ (s t : ℕ) (ks log : List ℕ) (long : length log ≡ suc s * n) (q : (slot es ps ks (take n log) m t).answer ≡ Done) where
+  module _ (s t : ℕ) (ks log : List ℕ) (long : length log ≡ suc s * n) (q : (slot es ps ks (take n log) m t).answer ≡ Ok tt) where
     abbrev now : SlotAfter
     now = slot es ps ks (take n log) m t
 
@@ -66,7 +65,7 @@ module _ (es ps : List ℕ) (m : ℕ) where
           ended = ⊎_elim (λ e. inl (ap suc e.0, e.1)) (λ e. inr (e.0, omega (arith, e.1), e.2, e.3)) R.ended;
         }
       where
-        dones : (j : ℕ) → j < suc r.answer.done → (slot_no j es ps m t ks log).answer ≡ Done
+        dones : (j : ℕ) → j < suc r.answer.done → (slot_no j es ps m t ks log).answer ≡ Ok tt
         dones zero l = q
         dones (suc j) l = R.done j (omega arith)
 
@@ -86,7 +85,7 @@ module _ (es ps : List ℕ) (m : ℕ) where
 
   pub slots_are_slots : (s t : ℕ) (ks log : List ℕ) → length log ≡ s * n → IsSlots s es ps m t ks log (slots_from s es ps m t ks log)
   unfolding slots_from after_slot slot_no
-  slots_are_slots zero t ks log long = stops 0 t ks log Done (inl (refl, refl))
+  slots_are_slots zero t ks log long = stops 0 t ks log (Ok tt) (inl (refl, refl))
   slots_are_slots (suc s) t ks log long =
       go now.answer refl (slots_are_slots s (suc t) now.counts (drop n log) (length-drop n log ∙ omega arith))
     where
@@ -96,10 +95,10 @@ module _ (es ps : List ℕ) (m : ℕ) where
       rest : RunAfter
       rest = slots_from s es ps m (suc t) now.counts (drop n log)
 
-      go : (o : Outcome) → now.answer ≡ o → IsSlots s es ps m (suc t) now.counts (drop n log) rest
+      go : (o : Result Unit Refusal) → now.answer ≡ o → IsSlots s es ps m (suc t) now.counts (drop n log) rest
           → IsSlots (suc s) es ps m t ks log (after_slot o ks log now.bytes rest)
-      go Done q R = goes_on s t ks log long q rest R
-      go (Refused x) q R = stops (suc s) t ks log (Refused x) (inr (x, omega arith, q, refl))
+      go (Ok tt) q R = goes_on s t ks log long q rest R
+      go (Err x) q R = stops (suc s) t ks log (Err x) (inr (x, omega arith, q, refl))
 
 log_length : (s : ℕ) (es ps ks log : List ℕ) → NoneHolds (run_checks s es ps ks log) → length log ≡ s * length es
 unfolding run_checks
@@ -114,6 +113,6 @@ run_is_slots s es ps ks log m t pass =
     rw pass (slots_are_slots es ps m s t ks log (log_length s es ps ks log (first_none (run_checks s es ps ks log) pass)))
 
 -- One that does not is refused by the first of the two that holds, with 0 done and nothing changed.
-pub run_refused : (s : ℕ) (es ps ks log : List ℕ) (m t : ℕ) (r : Refusal) → Given (run_checks s es ps ks log) r → run s es ps ks log m t ≡ stopped (Refused r) ks log
+pub run_refused : (s : ℕ) (es ps ks log : List ℕ) (m t : ℕ) (r : Refusal) → Given (run_checks s es ps ks log) r → run s es ps ks log m t ≡ stopped (Err r) ks log
 unfolding run run_by
 run_refused s es ps ks log m t r g = rw (given_first g)

@@ -1,7 +1,6 @@
 -- A table of slots of any length: for ever, as the tables of Table.antt, or of so many slots, as a night has them.
-use Rattle.std.specs.Prelude.{◌≡◌, Bool, List, ℕ, suc, ◌+◌, ◌-◌, ◌*◌, ◌≤◌, ◌<◌, length}
+use Rattle.std.specs.Prelude.{◌≡◌, Bool, List, ℕ, suc, ◌+◌, ◌-◌, ◌*◌, ◌≤◌, ◌<◌, length, Err}
 use Rattle.rule.specs.declared.Refusal.TheVariants.{Load}
-use Rattle.rule.specs.declared.Admission.TheVariants.{Refused as not_admitted}
 use Rattle.rule.specs.Places.{at, count}
 use Rattle.rule.specs.Sets.{multiple, load}
 use Rattle.rule.specs.Outcomes.{admission}
@@ -39,4 +38,4 @@ FiniteAtLeast s = TableOf (slots s) at_least
 
 -- Admission gives refusal 6, with "load - m·L".
 abbrev pub RefusedBySix : List ℕ → List ℕ → ℕ → Type 0
-RefusedBySix es ps m = admission es ps m ≡ not_admitted (Load (load es ps - m * multiple ps))
+RefusedBySix es ps m = admission es ps m ≡ Err (Load (load es ps - m * multiple ps))

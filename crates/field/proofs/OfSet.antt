@@ -1,11 +1,11 @@
 -- What `lay_out` lays out of a set, up to its size, are the requirements and the periods of the set's field. Assumes nothing.
+use Rattle.std.specs.Prelude.{None, Option, Some}
 use mathlib.Core.Path.{◌≡◌}
 use mathlib.Core.List.{List}
 use Prim.Native.Nat.{ℕ, ◌≤◌}
 use native.Mathlib.Omega.{arith}
 use lib.ListN.{length, take}
-use Rattle.rule.specs.declared.Spare.{Spare}
-use Rattle.rule.specs.declared.Spare.TheVariants.{Nobody, Task}
+use Rattle.rule.specs.declared.Weight.{Weight}
 use Rattle.rule.specs.Layout.{requirement_of, period_of, placed, places_of}
 use Rattle.rule.specs.Places.{at, each}
 use Rattle.rule.specs.Sets.{spare}
@@ -25,9 +25,9 @@ module _ (es ps : List ℕ) (same : length ps ≡ length es) (few : length es �
   unfolding size places_of
   size_fits = go (spare es ps)
     where
-      go : (s : Spare) → places_of s (length es) ≤ 65
-      go Nobody = omega arith
-      go (Task e p) = omega arith
+      go : (s : Option Weight) → places_of s (length es) ≤ 65
+      go None = omega arith
+      go (Some w) = omega arith
 
   pub laid_size : (lay_out es ps (spare es ps)).size ≡ size es ps
   unfolding lay_out size

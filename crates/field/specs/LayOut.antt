@@ -1,6 +1,6 @@
 -- A set's field laid out in two lists of 65: the tasks' numbers, and after the last task the spare's.
-use Rattle.std.specs.Prelude.{List, ℕ, length}
-use Rattle.rule.specs.declared.Spare.{Spare}
+use Rattle.std.specs.Prelude.{List, ℕ, length, Option}
+use Rattle.rule.specs.declared.Weight.{Weight}
 use Rattle.rule.specs.Layout.{placed, requirement_of, period_of, places_of}
 use Rattle.rule.specs.Places.{at, each}
 use Rattle.field.specs.declared.Laid.{Laid}
@@ -8,7 +8,7 @@ use Rattle.field.specs.declared.Laid.{Laid}
 unfoldable pub filled_with : List ℕ → ℕ → List ℕ
 filled_with xs rest = each 65 (placed (length xs) (at xs) rest)
 
-unfoldable pub lay_out : List ℕ → List ℕ → Spare → Laid
+unfoldable pub lay_out : List ℕ → List ℕ → Option Weight → Laid
 lay_out es ps s =
     record {
       requirements = filled_with es (requirement_of s);

@@ -4,7 +4,7 @@
 ghost use Rattle.std.specs.Prelude.{◌≡◌};
 ghost use Rattle.field.specs.LayOut.{filled_with, lay_out};
 
-use rule::Spare;
+use rule::Weight;
 
 // The requirements and the periods of the tasks, the spare's after the last, and how many places that makes.
 #[derive(Drop)]
@@ -14,17 +14,17 @@ pub struct Laid {
     pub size: usize,
 }
 
-pub fn lay_out(requirements: &[u32], periods: &[u32], spare: Spare) -> Laid
+pub fn lay_out(requirements: &[u32], periods: &[u32], spare: Option<Weight>) -> Laid
     ensures { result ≡ lay_out requirements.now periods.now spare }
 {
     let n = requirements.len();
     match spare {
-        Spare::Nobody => Laid {
+        None => Laid {
             requirements: filled(requirements, 0),
             periods: filled(periods, 0),
             size: n,
         },
-        Spare::Task { e, p } => Laid {
+        Some(Weight { e, p }) => Laid {
             requirements: filled(requirements, e),
             periods: filled(periods, p),
             size: n + 1,

@@ -1,6 +1,9 @@
 -- What is kept, as a session, and the answers that leave it: a listing, refusal 11, and whatever is asked before any set. Assumes nothing.
-use Prim.Native.Nat.{ℕ}
-use mathlib.Core.Path.{◌≡◌, refl}
+use mathlib.Core.List.{◌∷◌}
+use lib.ListN.{replicate}
+use Rattle.rule.specs.Places.{each}
+use Prim.Native.Nat.{ℕ, zero, suc}
+use mathlib.Core.Path.{◌≡◌, refl, ap}
 use Rattle.writing.specs.AnswerLines.{malformed_line}
 use Rattle.reading.specs.Kinds.{run, list, malformed}
 use Rattle.frames.specs.Session.{Session, no_set, in_force}
@@ -28,3 +31,9 @@ run_none s = refl
 pub list_none : reply no_set list ≡ eleven no_set
 unfolding reply
 list_none = refl
+
+-- A list that the library's `fill` cleared.
+pub cleared : (n : ℕ) → replicate n 0 ≡ each n (λ i. 0)
+unfolding each
+cleared zero = refl
+cleared (suc n) = ap (λ xs. 0 ∷ xs) (cleared n)

@@ -2,11 +2,8 @@
 use mathlib.Core.Path.{◌≡◌, sym, ap, ◌∙◌}
 use mathlib.Core.List.{List}
 use Prim.Native.Nat.{ℕ, ◌≤◌}
-use native.Mathlib.Omega.{arith}
-use lib.ListN.{length, take}
-use lib.Seq.{length-take-le}
-use Rattle.rule.specs.declared.Outcome.{Outcome}
-use Rattle.rule.specs.declared.Outcome.TheVariants.{Done, Refused}
+use lib.ListN.{length}
+use Rattle.std.specs.Prelude.{Err, Ok, Result}
 use Rattle.rule.specs.declared.Refusal.{Refusal}
 use Rattle.rule.specs.Limits.{tasks_most}
 use Rattle.rule.specs.Places.{each}
@@ -26,12 +23,12 @@ module _ (m : ℕ) (es ps ks : List ℕ) (t n : ℕ) (whole : length es ≡ n) (
   list_reply = rw (whole, clean)
 
   -- It has a byte for each task, no more than 64, so that its line is written.
-  pub list_done : (o : Outcome) (bytes : List ℕ) → o ≡ after.answer → bytes ≡ after.bytes → o ≡ Done → length bytes ≤ tasks_most
+  pub list_done : (o : Result Unit Refusal) (bytes : List ℕ) → o ≡ after.answer → bytes ≡ after.bytes → o ≡ Ok tt → length bytes ≤ tasks_most
       → listing_text t bytes ≡ (reply (in_force m es ps ks t) list).text
   unfolding list_text
   list_done o bytes answer made q few =
       listing_fits t bytes few ∙ ap (listing_line t) made ∙ sym (list_reply ∙ ap (list_text t after) (sym answer ∙ q))
 
-  pub list_refused : (o : Outcome) → o ≡ after.answer → (r : Refusal) → o ≡ Refused r → refusal_line r ≡ (reply (in_force m es ps ks t) list).text
+  pub list_refused : (o : Result Unit Refusal) → o ≡ after.answer → (r : Refusal) → o ≡ Err r → refusal_line r ≡ (reply (in_force m es ps ks t) list).text
   unfolding list_text
   list_refused o answer r q = sym (list_reply ∙ ap (list_text t after) (sym answer ∙ q))

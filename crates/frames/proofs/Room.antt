@@ -29,6 +29,13 @@ module _ (k : Kept) where
       let p = parts (leb (tasks_of k.set) 64) (leb 64 (length k.requirements.now)) (leb 64 (length k.periods.now)) (leb 64 (length k.counts.now)) (leb log_most (length k.log.now)) q in
       (leb-true _ 64 p.0, leb-true 64 _ p.1, leb-true 64 _ p.2, leb-true 64 _ p.3, leb-true log_most _ p.4)
 
+  pub is_roomy : HasRoom k → has_room k ≡ true
+  unfolding has_room
+  is_roomy h = rw (le-leb _ 64 h.0, le-leb 64 _ h.1, le-leb 64 _ h.2, le-leb 64 _ h.3, le-leb log_most _ h.4)
+
+  pub not_roomy : ¬ HasRoom k → has_room k ≡ false
+  not_roomy n = elim (has_room k) as (λ b. has_room k ≡ b → has_room k ≡ false) [ true ↦ (λ q. absurd (n (roomy q))) | false ↦ (λ q. q) ] refl
+
   -- Lists of the same lengths, and a set of no more than 64 tasks before and after.
   pub room_stays : (k' : Kept) → HasRoom k → SameLists k k' → tasks_of k'.set ≤ 64 → has_room k' ≡ has_room k
   unfolding has_room

@@ -1,12 +1,12 @@
 -- The answer to a set: the lists of its line are admitted, and kept from time 0 on if they are accepted. Assumes nothing.
-use mathlib.Core.Path.{◌≡◌, refl, sym, ap, ◌∙◌}
-use mathlib.Core.List.{List, [], ◌∷◌}
-use Prim.Native.Nat.{ℕ, zero, suc, ◌+◌, ◌*◌, ◌≤◌, ◌<◌}
+use Rattle.std.specs.Prelude.{Err, Ok}
+use mathlib.Core.Path.{◌≡◌, sym, ap, ◌∙◌}
+use mathlib.Core.List.{List}
+use Prim.Native.Nat.{ℕ, ◌+◌, ◌*◌}
 use native.Mathlib.Omega.{arith}
 use lib.ListN.{length, take}
 use lib.Seq.{length-take-le}
 use Rattle.rule.specs.declared.Accepted.{Accepted}
-use Rattle.rule.specs.declared.Admission.TheVariants.{Accepted as accepted, Refused as not_admitted}
 use Rattle.rule.specs.declared.Refusal.{Refusal}
 use Rattle.rule.specs.Places.{each}
 use Rattle.rule.specs.Outcomes.{admission}
@@ -31,15 +31,15 @@ module _ (line : List ℕ) (m n : ℕ) (asks : asked_by (read line) ≡ Admit m 
   unfolding reply
   set_reply = rw (first-column, second-column) (ap (reply w) (asked_admit line m n asks).0)
 
-  pub set_refused : (r : Refusal) → admission (take n es) (take n ps) m ≡ not_admitted r
+  pub set_refused : (r : Refusal) → admission (take n es) (take n ps) m ≡ Err r
       → (w ≡ (reply w (read line)).session) × (refusal_line r ≡ (reply w (read line)).text)
   unfolding admit_reply
   set_refused r q =
       let all = set_reply ∙ ap (admit_reply w m (take n es) (take n ps)) q in
       (sym (ap (λ x. x.session) all), sym (ap (λ x. x.text) all))
 
-  module _ (a : Accepted) (q : admission (take n es) (take n ps) m ≡ accepted a) where
-    all_accepted : reply w (read line) ≡ admit_reply w m (take n es) (take n ps) (accepted a)
+  module _ (a : Accepted) (q : admission (take n es) (take n ps) m ≡ Ok a) where
+    all_accepted : reply w (read line) ≡ admit_reply w m (take n es) (take n ps) (Ok a)
     all_accepted = set_reply ∙ ap (admit_reply w m (take n es) (take n ps)) q
 
     pub set_text : accepted_line a ≡ (reply w (read line)).text

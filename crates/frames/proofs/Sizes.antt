@@ -1,11 +1,11 @@
 -- No answer is longer than the longest one: 1,024 lines of a slot and a refusal's. Assumes nothing.
-use mathlib.Core.Path.{◌≡◌, refl, ap}
+use Rattle.std.specs.Prelude.{Err, Ok, Result}
 use mathlib.Core.List.{List, ◌∷◌, ◌++◌}
-use Prim.Native.Nat.{ℕ, zero, suc, ◌*◌, ◌≤◌}
+use Prim.Native.Nat.{ℕ, ◌*◌, ◌≤◌}
 use native.Mathlib.Omega.{arith}
 use lib.ListN.{length, length-append}
-use Rattle.rule.specs.declared.Admission.{Admission}
-use Rattle.rule.specs.declared.Admission.TheVariants.{Accepted as accepted, Refused as not_admitted}
+use Rattle.rule.specs.declared.Refusal.{Refusal}
+use Rattle.rule.specs.declared.Accepted.{Accepted}
 use Rattle.rule.specs.Places.{each}
 use Rattle.rule.specs.Refusals.{Verdict, passed, refused, first, listing_checks}
 use Rattle.rule.specs.Outcomes.{admission, run as run_of, listing, listing_by, mark_at}
@@ -29,10 +29,10 @@ abbrev all_tasks : Session → ℕ
 all_tasks no_set = 0
 all_tasks (in_force m es ps ks t) = length es
 
-admit_small : (was : Session) (m : ℕ) (es ps : List ℕ) (a : Admission) → length (admit_reply was m es ps a).text ≤ answer_most
+admit_small : (was : Session) (m : ℕ) (es ps : List ℕ) (a : Result Accepted Refusal) → length (admit_reply was m es ps a).text ≤ answer_most
 unfolding admit_reply
-admit_small was m es ps (accepted a) = let h = length_accepted a in omega arith
-admit_small was m es ps (not_admitted r) = let h = length_refusal r in omega arith
+admit_small was m es ps (Ok a) = let h = length_accepted a in omega arith
+admit_small was m es ps (Err r) = let h = length_refusal r in omega arith
 
 list_small : (v : Verdict) (es ps ks bytes : List ℕ) (t : ℕ) → length es ≤ 64
     → length (list_text t (listing_by v es ps ks bytes t) (listing_by v es ps ks bytes t).answer) ≤ answer_most

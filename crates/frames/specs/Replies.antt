@@ -1,9 +1,7 @@
 -- Document 01, "Frames": the answer to one line, in the same form. Its lines are those of `writing`.
-use Rattle.std.specs.Prelude.{List, ◌++◌, ℕ, ◌+◌, ◌*◌, length}
-use Rattle.rule.specs.declared.Admission.{Admission}
-use Rattle.rule.specs.declared.Admission.TheVariants.{Accepted as accepted, Refused as not_admitted}
-use Rattle.rule.specs.declared.Outcome.{Outcome}
-use Rattle.rule.specs.declared.Outcome.TheVariants.{Done, Refused}
+use Rattle.std.specs.Prelude.{List, ◌++◌, ℕ, ◌+◌, ◌*◌, length, Err, Ok, Result}
+use Rattle.rule.specs.declared.Accepted.{Accepted}
+use Rattle.rule.specs.declared.Refusal.{Refusal}
 use Rattle.rule.specs.Places.{each}
 use Rattle.rule.specs.Outcomes.{admission, RunAfter, run as run_of, ListingAfter, listing}
 use Rattle.reading.specs.Kinds.{Frame, admit, run, list, malformed}
@@ -16,9 +14,9 @@ pub record Reply : Type 0 where
   pub text : List ℕ
 
 -- "A refused set leaves the former one in force."
-unfoldable pub admit_reply : Session → (m : ℕ) (es ps : List ℕ) → Admission → Reply
-admit_reply was m es ps (accepted a) = record { session = fresh m es ps; text = accepted_line a }
-admit_reply was m es ps (not_admitted r) = record { session = was; text = refusal_line r }
+unfoldable pub admit_reply : Session → (m : ℕ) (es ps : List ℕ) → Result Accepted Refusal → Reply
+admit_reply was m es ps (Ok a) = record { session = fresh m es ps; text = accepted_line a }
+admit_reply was m es ps (Err r) = record { session = was; text = refusal_line r }
 
 unfoldable pub run_reply : (m : ℕ) (es ps : List ℕ) (t : ℕ) → RunAfter → Reply
 run_reply m es ps t r =
@@ -28,9 +26,9 @@ run_reply m es ps t r =
     }
 
 -- A listing that is not refused has a line of its bytes.
-unfoldable pub list_text : ℕ → ListingAfter → Outcome → List ℕ
-list_text t l Done = listing_line t l.bytes
-list_text t l (Refused r) = refusal_line r
+unfoldable pub list_text : ℕ → ListingAfter → Result Unit Refusal → List ℕ
+list_text t l (Ok tt) = listing_line t l.bytes
+list_text t l (Err r) = refusal_line r
 
 -- The answer to a frame: refusal 11 for a malformed one, and for "02 or 03 before any set is accepted".
 unfoldable pub reply : Session → Frame → Reply

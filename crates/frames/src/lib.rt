@@ -1,7 +1,7 @@
 // Frames: lines of hexadecimal, and the answers to them.
 #![tactic(auto)]
 
-ghost use Rattle.std.specs.Prelude.{cond, ◌≡◌, ◌*◌, ◌≤◌, ltb, length};
+ghost use Rattle.std.specs.Prelude.{IsTrue, ◌↔◌, cond, ◌≡◌, ◌*◌, ◌≤◌, ltb, length};
 ghost use Rattle.std.proofs.lemmas.List.Edits.{sets};
 ghost use Rattle.rule.specs.Limits.{slots_most};
 ghost use Rattle.reading.specs.Kinds.{read, run as a_run, list as a_listing};
@@ -10,7 +10,6 @@ ghost use Rattle.frames.specs.Replies.{reply};
 ghost use Rattle.frames.specs.Keeping.{session_of, log_most, tasks_of, has_room, HasRoom, SameLists, answered};
 
 use reading::Asked;
-use rule::{Admission, Outcome};
 
 // The set in force: how many tasks it has, on how many units, and the time.
 #[derive(Clone, Copy)]
@@ -37,7 +36,7 @@ const LOG_MOST: usize = 65536;
 impl Kept<'_> {
     // Is there room for 64 tasks in each list, and for the longest log?
     pub fn has_room(&self) -> bool
-        ensures { result ≡ has_room self.now }
+        ensures { IsTrue result ↔ HasRoom self.now }
     {
         self.set.map_or(0, |set| set.n) <= rule::TASKS_MOST
             && self.requirements.len() >= rule::TASKS_MOST
@@ -102,14 +101,14 @@ fn listed(kept: &mut Kept<'_>, set: InForce, out: &mut [u8]) -> usize
     let bytes = &mut kept.log[..n];
     bytes.fill(0);
     match listing::list(requirements, periods, counts, bytes, m, t) {
-        Outcome::Done => writing::put_listing(out, t, bytes),
-        Outcome::Refused(refusal) => writing::put_refused(out, refusal),
+        Ok(()) => writing::put_listing(out, t, bytes),
+        Err(refusal) => writing::put_refused(out, refusal),
     }
 }
 
 // The answer to a set: it is in force from time 0 on if admission accepts it, and else the former one stays.
 fn admitted(kept: &mut Kept<'_>, line: &[u8], m: u32, n: usize, out: &mut [u8]) -> usize
-    requires asked { asked_by (read line.now) ≡ Asked.Admit m n }
+    requires asked { (asked_by (read line.now) ≡ Asked.Admit m n) × (n ≤ 64) }
     requires room { HasRoom kept.old }
     ensures same { SameLists kept.old kept.new }
     ensures session { session_of kept.new ≡ (reply (session_of kept.old) (read line.now)).session }
@@ -120,11 +119,14 @@ fn admitted(kept: &mut Kept<'_>, line: &[u8], m: u32, n: usize, out: &mut [u8]) 
     let es = reading::column(line, 3);
     let ps = reading::column(line, 5);
     match admission::admit(&es[..n], &ps[..n], m) {
-        Admission::Refused(refusal) => writing::put_refused(out, refusal), // The former set stays, at its time.
-        Admission::Accepted(accepted) => {
-            kept.requirements[..n].copy_from_slice(&es[..n]);
-            kept.periods[..n].copy_from_slice(&ps[..n]);
-            kept.counts[..n].fill(0);
+        Err(refusal) => writing::put_refused(out, refusal), // The former set stays, at its time.
+        Ok(accepted) => {
+            let requirements = &mut kept.requirements[..n];
+            let periods = &mut kept.periods[..n];
+            let counts = &mut kept.counts[..n];
+            requirements.copy_from_slice(&es[..n]);
+            periods.copy_from_slice(&ps[..n]);
+            counts.fill(0);
             kept.set = Some(InForce { n, m, t: 0 });
             writing::put_accepted(out, accepted)
         }

@@ -1,5 +1,6 @@
 -- A listing of a set, by what admission answers: another length or a refusal of admission is the listing's own, and of an accepted set
 -- the judge of the laid-out field decides the rest. Assumes nothing.
+use Rattle.std.specs.Prelude.{Err, Ok}
 use mathlib.Core.Path.{◌≡◌, sym, ap, ◌∙◌}
 use mathlib.Core.Bool.{true}
 use mathlib.Core.List.{List, [], ◌∷◌, ◌++◌}
@@ -8,8 +9,6 @@ use native.Mathlib.Omega.{arith}
 use borrow.Author.Tests.{eq-eqb}
 use lib.ListN.{length, take}
 use Rattle.rule.specs.declared.Accepted.{Accepted}
-use Rattle.rule.specs.declared.Admission.TheVariants.{Accepted as accepted, Refused as not_admitted}
-use Rattle.rule.specs.declared.Outcome.TheVariants.{Done, Refused}
 use Rattle.rule.specs.declared.Refusal.{Refusal}
 use Rattle.rule.specs.declared.Refusal.TheVariants.{Lengths}
 use Rattle.rule.specs.Outcomes.{acceptance, admission, ListingAfter, listing_by, listing}
@@ -37,7 +36,7 @@ parts q = (ap (λ r. r.answer) q, ap (λ r. r.bytes) q)
 
 module _ (es ps ks bytes : List ℕ) (m t : ℕ) where
   abbrev unchanged : Refusal → ListingAfter
-  unchanged r = record { answer = Refused r; bytes = bytes }
+  unchanged r = record { answer = Err r; bytes = bytes }
 
   -- ---- refusal 1
 
@@ -52,14 +51,14 @@ module _ (es ps ks bytes : List ℕ) (m t : ℕ) where
     unfolding listing_checks admission_checks differ
     checks_are = rw (eq-eqb (length ks) (length es) same, eq-eqb (length bytes) (length es) wide)
 
-    pub listing_refused : (r : Refusal) → admission es ps m ≡ not_admitted r → unchanged r ≡ listing es ps ks bytes m t
+    pub listing_refused : (r : Refusal) → admission es ps m ≡ Err r → unchanged r ≡ listing es ps ks bytes m t
     unfolding listing listing_by or_next
     listing_refused r q =
         rw (checks_are, first_or (admission_checks es ps m) (times t ∷ lags es ps ks t ∷ []), given_first ((admission_refusal es ps m r).0 q))
 
     -- ---- an accepted set
 
-    module _ (a : Accepted) (q : admission es ps m ≡ accepted a) (laid : Laid) (out : laid ≡ lay_out es ps a.spare) where
+    module _ (a : Accepted) (q : admission es ps m ≡ Ok a) (laid : Laid) (out : laid ≡ lay_out es ps a.spare) where
       tells : (length ps ≡ length es) × (first (set_checks es ps m) ≡ passed) × (a ≡ acceptance es ps)
       tells = accepted_tells es ps m a q
 
@@ -87,14 +86,14 @@ module _ (es ps ks bytes : List ℕ) (m t : ℕ) where
             rw (eq-eqb (length ps) (length es) tells.0, eq-eqb (length ks) (length es) same, eq-eqb (length bytes) (length es) wide)
             (first_append (set_checks es ps m) (times t ∷ lags es ps ks t ∷ []) tells.1 ∙ sym (laid_first es ps ks same t m set))
 
-        pub listing_not_judged : (r : Refusal) → j.outcome ≡ Refused r → unchanged r ≡ listing es ps ks bytes m t
+        pub listing_not_judged : (r : Refusal) → j.outcome ≡ Err r → unchanged r ≡ listing es ps ks bytes m t
         unfolding listing listing_by
         listing_not_judged r h =
             let given = ap (λ j. j.outcome) (sym judged_set) ∙ h in
             rw (verdict, judged_refused (units_in_use es ps) (laid_requirements es ps) (laid_periods es ps) ks t r given)
 
-        module _ (h : j.outcome ≡ Done) where
-          done : (judged (units_in_use es ps) (laid_requirements es ps) (laid_periods es ps) ks t).outcome ≡ Done
+        module _ (h : j.outcome ≡ Ok tt) where
+          done : (judged (units_in_use es ps) (laid_requirements es ps) (laid_periods es ps) ks t).outcome ≡ Ok tt
           done = ap (λ j. j.outcome) (sym judged_set) ∙ h
 
           rungs_are : j.rungs ≡ rungs_of (units_in_use es ps) (laid_requirements es ps) (laid_periods es ps) ks t
@@ -106,8 +105,8 @@ module _ (es ps ks bytes : List ℕ) (m t : ℕ) where
           rungs_cover = let all = ap length rungs_are ∙ length_each 65 _ in omega (arith, set.tasks_le)
 
           pub listing_marked : (bs : List ℕ) → bs ≡ marks_by (length bytes) j.rungs
-              → record { answer = Done; bytes = bs } ≡ listing es ps ks bytes m t
+              → record { answer = Ok tt; bytes = bs } ≡ listing es ps ks bytes m t
           unfolding listing listing_by
           listing_marked bs written =
               rw (verdict, judged_passed (units_in_use es ps) (laid_requirements es ps) (laid_periods es ps) ks t done, written, wide, rungs_are)
-              (ap (λ bs. record { answer = Done; bytes = bs }) (marks_of_set es ps m set ks same t))
+              (ap (λ bs. record { answer = Ok tt; bytes = bs }) (marks_of_set es ps m set ks same t))

@@ -1,5 +1,6 @@
 -- A mark by rung is the mark by standing: rung 0 is tnegru and so ahead, rung 4 is urgent and so behind, and the rungs between them
 -- are the three standings. Assumes nothing.
+use Rattle.std.specs.Prelude.{None, Option, Some}
 use mathlib.Core.Path.{◌≡◌, refl, ap, ◌∙◌}
 use mathlib.Core.Bool.{Bool, true, false, cond, not, ◌&&◌}
 use mathlib.Core.List.{List}
@@ -7,8 +8,7 @@ use Prim.Native.Nat.{ℕ, ◌<◌}
 use native.Mathlib.Omega.{arith}
 use borrow.Author.Tests.{lt-ltb}
 use lib.ListN.{length}
-use Rattle.rule.specs.declared.Spare.{Spare}
-use Rattle.rule.specs.declared.Spare.TheVariants.{Nobody, Task}
+use Rattle.rule.specs.declared.Weight.{Weight}
 use Rattle.rule.specs.declared.Standing.{Standing}
 use Rattle.rule.specs.declared.Standing.TheVariants.{Ahead, Punctual, Behind}
 use Rattle.rule.specs.Answers.{mark}
@@ -42,9 +42,9 @@ task_entry : (es ps ks : List ℕ) (t i : ℕ) → i < length es → (field es p
 unfolding field field_with
 task_entry es ps ks t i l = go (spare es ps)
   where
-    go : (s : Spare) → (field_with (units_in_use es ps) s es ps ks t).entry i ≡ task_at es ps ks i
-    go Nobody = refl
-    go (Task e p) = rw (lt-ltb i (length es) l)
+    go : (s : Option Weight) → (field_with (units_in_use es ps) s es ps ks t).entry i ≡ task_at es ps ks i
+    go None = refl
+    go (Some w) = rw (lt-ltb i (length es) l)
 
 -- The marks that are read off the rungs of an accepted set's field are the listing's.
 pub marks_of_set : (es ps : List ℕ) (m : ℕ) → AcceptedSet es ps m → (ks : List ℕ) → length ks ≡ length es → (t : ℕ)

@@ -5,7 +5,7 @@ ghost use Rattle.std.specs.Prelude.{◌≡◌, ◌≤◌, length};
 ghost use Rattle.rule.specs.Outcomes.{admission, listing};
 ghost use Rattle.listing.specs.Marks.{mark_by, marks_by};
 
-use rule::{Accepted, Admission, Outcome, Refusal};
+use rule::{Accepted, Refusal};
 
 const AHEAD: u8 = 0x41;
 
@@ -45,8 +45,8 @@ fn list_accepted(
     accepted: Accepted,
     m: u32,
     t: u32,
-) -> Outcome
-    requires admitted { admission requirements.now periods.now m ≡ Admission.Accepted accepted }
+) -> Result<(), Refusal>
+    requires admitted { admission requirements.now periods.now m ≡ Ok accepted }
     requires same_length { (length counts.now ≡ length requirements.now) × (length bytes.old ≡ length requirements.now) }
     ensures answer { result ≡ (listing requirements.now periods.now counts.now bytes.old m t).answer }
     ensures bytes { bytes.new ≡ (listing requirements.now periods.now counts.now bytes.old m t).bytes }
@@ -58,12 +58,12 @@ fn list_accepted(
     let ps = laid.periods;
     let judged = standing::judge(accepted.units, &es[..size], &ps[..size], counts, t);
     let outcome = judged.outcome;
-    if let Outcome::Refused(refusal) = outcome {
-        return Outcome::Refused(refusal);
+    if let Err(refusal) = outcome {
+        return Err(refusal);
     }
     let rungs = judged.rungs;
     write_marks(&rungs, bytes);
-    Outcome::Done
+    Ok(())
 }
 
 // The listing of a set on m units at time t: refusals 1 to 8, or a byte for each task that says how it stands.
@@ -74,27 +74,17 @@ pub fn list(
     bytes: &mut [u8],
     m: u32,
     t: u32,
-) -> Outcome
+) -> Result<(), Refusal>
     ensures answer { result ≡ (listing requirements.now periods.now counts.now bytes.old m t).answer }
     ensures bytes { bytes.new ≡ (listing requirements.now periods.now counts.now bytes.old m t).bytes }
 {
     let n = requirements.len();
     if counts.len() != n {
-        return Outcome::Refused(Refusal::Lengths);
+        return Err(Refusal::Lengths);
     }
     if bytes.len() != n {
-        return Outcome::Refused(Refusal::Lengths);
+        return Err(Refusal::Lengths);
     }
-    match admission::admit(requirements, periods, m) {
-        Admission::Refused(refusal) => Outcome::Refused(refusal),
-        Admission::Accepted(accepted) => list_accepted(
-            requirements,
-            periods,
-            counts,
-            bytes,
-            accepted,
-            m,
-            t,
-        ),
-    }
+    let accepted = admission::admit(requirements, periods, m)?;
+    list_accepted(requirements, periods, counts, bytes, accepted, m, t)
 }

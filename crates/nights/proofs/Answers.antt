@@ -1,4 +1,5 @@
 -- The answer to one line has one of the forms, and leaves a fair session fair: by cases on what the line asks. Assumes nothing.
+use Rattle.std.specs.Prelude.{Result}
 use mathlib.Core.Path.{◌≡◌, refl, sym, ap, ◌∙◌, subst}
 use mathlib.Core.Logic.{inl, inr}
 use mathlib.Core.Bool.{Bool, true, false, cond, ◌&&◌, true≢false}
@@ -10,7 +11,6 @@ use native.Mathlib.Omega.{arith}
 use borrow.Author.Tests.{le-ltb, eq-eqb}
 use lib.Dec.{leb, eqb}
 use lib.ListN.{length}
-use Rattle.rule.specs.declared.Outcome.{Outcome}
 use Rattle.rule.specs.declared.Refusal.{Refusal}
 use Rattle.rule.specs.declared.Refusal.TheVariants.{Time}
 use Rattle.rule.specs.Answers.{number_of}
@@ -76,7 +76,7 @@ module _ (m : ℕ) (es ps : List ℕ) (t : ℕ) (F : FairSet m es ps (stepped es
       d : ℕ
       d = length R.lines
 
-      go : (end : Outcome) → Ended s t d end
+      go : (end : Result Unit Refusal) → Ended s t d end
           → Answered now (run s) (written_all R.lines ++ end_line end) (in_force m es ps (stepped es ps m (t + d)) (t + d))
       go end (inl (all, e)) =
           rw (e, append-nil)

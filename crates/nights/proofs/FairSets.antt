@@ -1,5 +1,6 @@
 -- An accepted set on its way from time 0: it is fair at every time of the calendar, each slot within the calendar is done, and the
 -- slot's line is the right one. Assumes nothing.
+use Rattle.std.specs.Prelude.{Ok}
 use mathlib.Core.Path.{◌≡◌, refl, sym, ap, ◌∙◌, subst}
 use mathlib.Core.Logic.{◌⊎◌, inl, inr, ⊎_elim, ◌↔◌}
 use mathlib.Core.Bool.{Bool, true}
@@ -8,8 +9,6 @@ use Prim.Native.Nat.{ℕ, suc, ◌≤◌, ◌<◌}
 use native.Mathlib.Omega.{arith}
 use borrow.Author.Tests.{lt-ltb}
 use lib.ListN.{length}
-use Rattle.rule.specs.declared.Admission.TheVariants.{Accepted as accepted}
-use Rattle.rule.specs.declared.Outcome.TheVariants.{Done}
 use Rattle.rule.specs.Limits.{time_most}
 use Rattle.rule.specs.Places.{at}
 use Rattle.rule.specs.Sets.{units_in_use, field}
@@ -37,7 +36,7 @@ task_share es ps ks m t F i l =
     let here = rw (field_entry_free es ps ks t i place, requirement_task es ps i l, period_task es ps i l, lt-ltb i (length es) l) at (F.shares i inside) in
     ⊎_elim (λ q. inl (cc)) (λ q. inr (cc)) here
 
-module _ (es ps : List ℕ) (m : ℕ) (q : admission es ps m ≡ accepted (acceptance es ps)) where
+module _ (es ps : List ℕ) (m : ℕ) (q : admission es ps m ≡ Ok (acceptance es ps)) where
   pub fair_set : (t : ℕ) → t ≤ suc time_most → FairSet m es ps (stepped es ps m t) t
   fair_set t h =
       let F = stepped_fair es ps m (acceptance es ps) q t h in
@@ -47,16 +46,16 @@ module _ (es ps : List ℕ) (m : ℕ) (q : admission es ps m ≡ accepted (accep
     abbrev ks : List ℕ
     ks = stepped es ps m t
 
-    done : (bytes : List ℕ) → length bytes ≡ length es → (slot es ps ks bytes m t).answer ≡ Done
+    done : (bytes : List ℕ) → length bytes ≡ length es → (slot es ps ks bytes m t).answer ≡ Ok tt
     done bytes b = never_refused es ps m (acceptance es ps) q t bytes b h
 
     -- The slot is done, with the counts of the next time.
     pub slot_stepped : (bytes : List ℕ) → length bytes ≡ length es
-        → slot es ps ks bytes m t ≡ record { answer = Done; counts = stepped es ps m (suc t); bytes = bytes_after es ps ks t }
+        → slot es ps ks bytes m t ≡ record { answer = Ok tt; counts = stepped es ps m (suc t); bytes = bytes_after es ps ks t }
     unfolding stepped
     slot_stepped bytes b =
         done_slot es ps ks bytes m t (done bytes b)
-        ∙ ap (λ cs. record { answer = Done; counts = cs; bytes = bytes_after es ps ks t })
+        ∙ ap (λ cs. record { answer = Ok tt; counts = cs; bytes = bytes_after es ps ks t })
         (sym (ap (λ r. r.counts) (done_slot es ps ks (zeros es) m t (done (zeros es) (length_each (length es) (λ i. 0))))))
 
     abbrev pub line : SlotLine

@@ -1,5 +1,6 @@
 -- A run of an accepted set on its way: its slots are done up to the calendar's end, each with its right line, and where the calendar
 -- ends before the run does, refusal 7 follows. By induction on the slots. Assumes nothing.
+use Rattle.std.specs.Prelude.{Err, Ok, Result}
 use mathlib.Core.Path.{◌≡◌, refl, sym, ap, ◌∙◌}
 use mathlib.Core.Logic.{◌⊎◌, inl, inr, ⊎_elim}
 use mathlib.Core.List.{List, [], ◌∷◌, ◌++◌}
@@ -10,9 +11,7 @@ use native.Mathlib.Omega.{arith}
 use borrow.Author.Tests.{le-ltb, lt-ltb, eq-eqb}
 use lib.ListN.{length, take, drop, length-drop}
 use lib.Seq.{length-take-le, take_at, drop_at}
-use Rattle.rule.specs.declared.Admission.TheVariants.{Accepted as accepted}
-use Rattle.rule.specs.declared.Outcome.{Outcome}
-use Rattle.rule.specs.declared.Outcome.TheVariants.{Done, Refused}
+use Rattle.rule.specs.declared.Refusal.{Refusal}
 use Rattle.rule.specs.declared.Refusal.TheVariants.{Time, Slots}
 use Rattle.rule.specs.Limits.{time_most, slots_most}
 use Rattle.rule.specs.Places.{bit}
@@ -28,9 +27,9 @@ use Rattle.nights.specs.SlotLines.{SlotLine, written_all, RightLines, none, and}
 use Rattle.nights.proofs.FairSets.{slot_stepped, line, line_written, right_line}
 
 -- How a run ended that had these lines: all were done, or the calendar was over.
-abbrev pub Ended : (s t done : ℕ) → Outcome → Type 0
+abbrev pub Ended : (s t done : ℕ) → Result Unit Refusal → Type 0
 Ended s t done end =
-    ((done ≡ s) × (end ≡ Done)) ⊎ ((done < s) × (t + done ≡ suc time_most) × (end ≡ Refused Time))
+    ((done ≡ s) × (end ≡ Ok tt)) ⊎ ((done < s) × (t + done ≡ suc time_most) × (end ≡ Err Time))
 
 -- What a run of s slots from t on comes to.
 pub record RanFair (es ps : List ℕ) (m s t : ℕ) (r : RunAfter) : Type 0 where
@@ -42,7 +41,7 @@ pub record RanFair (es ps : List ℕ) (m s t : ℕ) (r : RunAfter) : Type 0 wher
   pub counts : r.counts ≡ stepped es ps m (t + length lines)
   pub ended : Ended s t (length lines) r.answer.end
 
-module _ (es ps : List ℕ) (m : ℕ) (q : admission es ps m ≡ accepted (acceptance es ps)) where
+module _ (es ps : List ℕ) (m : ℕ) (q : admission es ps m ≡ Ok (acceptance es ps)) where
   pub length_stepped : (t : ℕ) → t ≤ suc time_most → length (stepped es ps m t) ≡ length es
   length_stepped t h =
       let A = set es ps m (acceptance es ps) q in
@@ -60,7 +59,7 @@ module _ (es ps : List ℕ) (m : ℕ) (q : admission es ps m ≡ accepted (accep
   -- ---- slot after slot
 
   slot_late : (bytes : List ℕ) (t : ℕ) → length bytes ≡ length es → t ≡ suc time_most
-      → (slot es ps (stepped es ps m t) bytes m t).answer ≡ Refused Time
+      → (slot es ps (stepped es ps m t) bytes m t).answer ≡ Err Time
   unfolding slot_checks
   slot_late bytes t b h =
       let ks = stepped es ps m t in
@@ -90,7 +89,7 @@ module _ (es ps : List ℕ) (m : ℕ) (q : admission es ps m ≡ accepted (accep
       whole = length_each (length es) (λ i. bit (runs_at es ps (stepped es ps m t) t i))
 
   -- A run that stops before its first slot.
-  stops : (s t : ℕ) (log : List ℕ) (o : Outcome) → t ≤ suc time_most → Ended s t 0 o → RanFair es ps m s t (stopped o (stepped es ps m t) log)
+  stops : (s t : ℕ) (log : List ℕ) (o : Result Unit Refusal) → t ≤ suc time_most → Ended s t 0 o → RanFair es ps m s t (stopped o (stepped es ps m t) log)
   unfolding slot_lines written_all
   stops s t log o h end =
       record { lines = []; right = none; done = refl; calendar = omega arith; text = refl; counts = ap (stepped es ps m) (sym (add-zero t)); ended = end }
@@ -98,7 +97,7 @@ module _ (es ps : List ℕ) (m : ℕ) (q : admission es ps m ≡ accepted (accep
   slots_fair : (s t : ℕ) (log : List ℕ) → t ≤ suc time_most → length log ≡ s * length es
       → RanFair es ps m s t (slots_from s es ps m t (stepped es ps m t) log)
   unfolding slots_from after_slot
-  slots_fair zero t log h whole = stops 0 t log Done h (inl (refl, refl))
+  slots_fair zero t log h whole = stops 0 t log (Ok tt) h (inl (refl, refl))
   slots_fair (suc s) t log h whole = go (dec_le t time_most) (slots_fair s (suc t) (drop (length es) log))
     where
       part : length (take (length es) log) ≡ length es
@@ -113,7 +112,7 @@ module _ (es ps : List ℕ) (m : ℕ) (q : admission es ps m ≡ accepted (accep
           (with_one_more s t l _ (rest (omega arith) (length-drop (length es) log ∙ omega arith)))
       go (no n) rest =
           let last : t ≡ suc time_most = omega arith in
-          rw (slot_late (take (length es) log) t part last) (stops (suc s) t log (Refused Time) h (inr (omega arith, omega arith, refl)))
+          rw (slot_late (take (length es) log) t part last) (stops (suc s) t log (Err Time) h (inr (omega arith, omega arith, refl)))
 
   -- ---- the run
 
@@ -132,6 +131,6 @@ module _ (es ps : List ℕ) (m : ℕ) (q : admission es ps m ≡ accepted (accep
         (slots_fair s t log h whole)
 
 -- More than 1,024 slots are refused by 10, whatever the set.
-pub run_ten : (es ps ks log : List ℕ) (m s t : ℕ) → slots_most < s → run s es ps ks log m t ≡ stopped (Refused Slots) ks log
+pub run_ten : (es ps ks log : List ℕ) (m s t : ℕ) → slots_most < s → run s es ps ks log m t ≡ stopped (Err Slots) ks log
 unfolding run_checks
 run_ten es ps ks log m s t h = run_refused s es ps ks log m t Slots (this (lt-ltb slots_most s h))

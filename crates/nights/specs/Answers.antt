@@ -1,8 +1,7 @@
 -- The forms of an answer. There are no others: no line is ever answered by refusal 1, 8 or 9.
-use Rattle.std.specs.Prelude.{◌≡◌, List, ◌++◌, ℕ, suc, ◌+◌, ◌≤◌, ◌<◌, length}
+use Rattle.std.specs.Prelude.{◌≡◌, List, ◌++◌, ℕ, suc, ◌+◌, ◌≤◌, ◌<◌, length, Err, Ok}
 use Rattle.rule.specs.declared.Refusal.{Refusal}
 use Rattle.rule.specs.declared.Refusal.TheVariants.{Time, Slots}
-use Rattle.rule.specs.declared.Admission.TheVariants.{Accepted as accepted, Refused as not_admitted}
 use Rattle.rule.specs.Answers.{number_of}
 use Rattle.rule.specs.Limits.{time_most, slots_most}
 use Rattle.rule.specs.Places.{each}
@@ -16,10 +15,10 @@ use Rattle.nights.specs.SlotLines.{SlotLine, written_all, RightLines}
 -- The answer to a frame: the session before it, what it asks, what is written, and the session after it.
 pub data Answered : Session → Frame → List ℕ → Session → Type 0 where
   -- 01: an accepted set is in force from time 0 on
-  set_accepted : {was : Session} {m : ℕ} {es ps : List ℕ} → admission es ps m ≡ accepted (acceptance es ps)
+  set_accepted : {was : Session} {m : ℕ} {es ps : List ℕ} → admission es ps m ≡ Ok (acceptance es ps)
       → Answered was (admit m es ps) (accepted_line (acceptance es ps)) (fresh m es ps)
   -- a set is refused by 2 to 6, and the former one stays in force
-  set_refused : {was : Session} {m : ℕ} {es ps : List ℕ} {r : Refusal} → admission es ps m ≡ not_admitted r
+  set_refused : {was : Session} {m : ℕ} {es ps : List ℕ} {r : Refusal} → admission es ps m ≡ Err r
       → 2 ≤ number_of r → number_of r ≤ 6 → Answered was (admit m es ps) (refusal_line r) was
   -- 02: all slots of a run are done, each with its right line
   all_slots : {m : ℕ} {es ps ks : List ℕ} {t : ℕ} (lines : List SlotLine) → length lines ≤ slots_most → RightLines m es ps t lines

@@ -1,6 +1,5 @@
 -- A fair session: no set is in force, or one that admission accepts, on its way from time 0, with its shares served.
-use Rattle.std.specs.Prelude.{◌≡◌, ◌⊎◌, List, [], ◌∷◌, ℕ, suc, ◌≤◌, ◌<◌, length}
-use Rattle.rule.specs.declared.Admission.TheVariants.{Accepted as accepted}
+use Rattle.std.specs.Prelude.{◌≡◌, ◌⊎◌, List, [], ◌∷◌, ℕ, suc, ◌≤◌, ◌<◌, length, Ok}
 use Rattle.rule.specs.Limits.{time_most}
 use Rattle.rule.specs.Places.{at}
 use Rattle.rule.specs.Outcomes.{acceptance, admission}
@@ -13,7 +12,7 @@ use Rattle.frames.specs.Transcript.{answer_to}
 -- A set on m units at time t, with counts ks.
 pub record FairSet (m : ℕ) (es ps ks : List ℕ) (t : ℕ) : Type 0 where
   -- admission accepts it
-  pub admitted : admission es ps m ≡ accepted (acceptance es ps)
+  pub admitted : admission es ps m ≡ Ok (acceptance es ps)
   -- t slots were run, of the 16,777,216 that the calendar has
   pub calendar : t ≤ suc time_most
   -- the counts are those that its own slots hand back, from time 0 with counts 0 on

@@ -1,8 +1,7 @@
 -- A line of a transcript by itself, with its line feed: what can stand there.
-use Rattle.std.specs.Prelude.{◌≡◌, Bool, true, ◌||◌, ℕ, ◌≤◌, eqb, length}
+use Rattle.std.specs.Prelude.{◌≡◌, Bool, true, ◌||◌, ℕ, ◌≤◌, eqb, length, Ok}
 use mathlib.Core.List.{List, Memᴰ}
 use Rattle.rule.specs.declared.Refusal.{Refusal}
-use Rattle.rule.specs.declared.Admission.TheVariants.{Accepted as admitted}
 use Rattle.rule.specs.Answers.{number_of}
 use Rattle.rule.specs.Limits.{time_most, within}
 use Rattle.rule.specs.Places.{each}
@@ -22,7 +21,7 @@ can_come number = within 2 7 number || eqb number 10
 
 pub data TranscriptLine : List ℕ → Type 0 where
   -- 81: M, L and the spare of a set that was accepted
-  accepted : (m : ℕ) (es ps : List ℕ) → admission es ps m ≡ admitted (acceptance es ps) → TranscriptLine (accepted_line (acceptance es ps))
+  accepted : (m : ℕ) (es ps : List ℕ) → admission es ps m ≡ Ok (acceptance es ps) → TranscriptLine (accepted_line (acceptance es ps))
   -- 82: a slot with the one right choice
   slot : {m : ℕ} {es ps ks : List ℕ} {t : ℕ} {line : SlotLine} → RightLine m es ps ks t line → TranscriptLine (written line)
   -- 83: the standings of a fair set

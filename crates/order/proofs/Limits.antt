@@ -1,5 +1,6 @@
 -- What the tests of the limits say: the engine takes every valid record, and answers the comparison of what it takes.
 -- Assumes nothing.
+use Rattle.std.specs.Prelude.{Ok}
 use mathlib.Core.Path.{◌≡◌, sym, ap, ◌∙◌}
 use mathlib.Core.Bool.{Bool, true, false, not}
 use Prim.Native.Nat.{ℕ, ◌≤◌}
@@ -8,7 +9,6 @@ use borrow.Author.Tests.{le-leb, le-ltb, not-true, not-false}
 use Rattle.rule.specs.Limits.{period_most, multiple_most, time_most, bounded_by, valid}
 use Rattle.rule.specs.Task.{compare}
 use Rattle.rule.specs.declared.Order.{Order}
-use Rattle.rule.specs.declared.Comparison.TheVariants.{Answer}
 use Rattle.rule.specs.Refusals.{comparison_checks}
 use Rattle.rule.specs.Outcomes.{comparison_by, comparison}
 use Rattle.rule.proofs.Limits.{bounded_numbers, numbers_bounded}
@@ -44,9 +44,9 @@ unfolding engine
 engine_compares e p e' p' t b b' g = rw (bounds_takes e p b, bounds_takes e' p' b', le-leb t time_most g)
 
 -- Where no check of the comparison holds, it answers what the engine does.
-pub comparison_answers : (e p e' p' t : ℕ) (o : Order) → valid e p ≡ true → valid e' p' ≡ true → t ≤ time_most → o ≡ engine e p e' p' t → Answer o ≡ comparison e p e' p' t
+pub comparison_answers : (e p e' p' t : ℕ) (o : Order) → valid e p ≡ true → valid e' p' ≡ true → t ≤ time_most → o ≡ engine e p e' p' t → Ok o ≡ comparison e p e' p' t
 unfolding comparison comparison_by comparison_checks
 comparison_answers e p e' p' t o h h' g q =
     let passes = none_first (and (ap not h) (and (ap not h') (and (le-ltb time_most t g) none))) in
     let compares = engine_compares e p e' p' t (valid_bounds e p h) (valid_bounds e' p' h') g in
-    ap Answer (q ∙ compares) ∙ sym (ap (λ v. comparison_by v (compare t e p e' p')) passes)
+    ap Ok (q ∙ compares) ∙ sym (ap (λ v. comparison_by v (compare t e p e' p')) passes)

@@ -7,7 +7,7 @@ ghost use Rattle.rule.specs.Task as task;
 ghost use Rattle.rule.specs.Outcomes.{comparison};
 ghost use Rattle.order.specs.Engine.{rank_of, Bounds, engine};
 
-use rule::{Comparison, Order, Refusal, Symbol};
+use rule::{Order, Refusal, Symbol};
 
 // The sign of a signed difference, written -, 0 or +.
 pub fn sign_of(difference: i64) -> Symbol
@@ -95,17 +95,17 @@ pub fn plain(e: u32, p: u32, e2: u32, p2: u32, t: u32) -> Order
 }
 
 // The comparison of two records at a time: refusal 4 with place 0 or 1, refusal 7, or the order of their strings.
-pub fn compare(e: u32, p: u32, e2: u32, p2: u32, t: u32) -> Comparison
+pub fn compare(e: u32, p: u32, e2: u32, p2: u32, t: u32) -> Result<Order, Refusal>
     ensures { result ≡ comparison e p e2 p2 t }
 {
     if !rule::within_limits(e, p) {
-        return Comparison::Refused(Refusal::Record { place: 0 });
+        return Err(Refusal::Record { place: 0 });
     }
     if !rule::within_limits(e2, p2) {
-        return Comparison::Refused(Refusal::Record { place: 1 });
+        return Err(Refusal::Record { place: 1 });
     }
     if t > rule::TIME_MOST {
-        return Comparison::Refused(Refusal::Time);
+        return Err(Refusal::Time);
     }
-    Comparison::Answer(plain(e, p, e2, p2, t))
+    Ok(plain(e, p, e2, p2, t))
 }

@@ -1,5 +1,6 @@
 -- The lists that records are taken apart into are those of the set, where there are no more than 64, and counts put back
 -- change nothing else. Assumes nothing.
+use Rattle.std.specs.Prelude.{Err, Result}
 use mathlib.Core.Path.{◌≡◌, refl, sym, ap, subst, ◌∙◌}
 use mathlib.Core.Bool.{Bool, true, false}
 use mathlib.Core.Logic.{◌⊎◌, ⊎_elim, inl, inr}
@@ -10,9 +11,6 @@ use borrow.Author.Tests.{lt-ltb, le-ltb, ltb-true, ltb-false}
 use lib.Dec.{ltb}
 use lib.ListN.{length, get_or, set, take, drop, replicate, length-set, length-replicate, length-map, get_or-map}
 use lib.Seq.{take_at, take-length}
-use Rattle.rule.specs.declared.Admission.TheVariants.{Refused as not_admitted}
-use Rattle.rule.specs.declared.Outcome.{Outcome}
-use Rattle.rule.specs.declared.Outcome.TheVariants.{Refused}
 use Rattle.rule.specs.declared.Refusal.{Refusal}
 use Rattle.rule.specs.declared.Refusal.TheVariants.{Lengths, Tasks}
 use Rattle.rule.specs.Limits.{tasks_most}
@@ -134,20 +132,20 @@ module _ (ts : List Task) where
   lengths : (length (requirements_of ts) ≡ length ts) × (length (periods_of ts) ≡ length ts) × (length (counts_of ts) ≡ length ts)
   lengths = (length-map ts (λ a. a.e), length-map ts (λ a. a.p), length-map ts (λ a. a.k))
 
-  refused_tasks : (m : ℕ) → 64 < length ts → admission (requirements_of ts) (periods_of ts) m ≡ not_admitted Tasks
+  refused_tasks : (m : ℕ) → 64 < length ts → admission (requirements_of ts) (periods_of ts) m ≡ Err Tasks
   unfolding admission_checks set_checks
   refused_tasks m h =
       (admission_refusal (requirements_of ts) (periods_of ts) m Tasks).1
       (next (same_lengths _ _ (lengths.1 ∙ sym lengths.0)) (this (outside 1 tasks_most (length (requirements_of ts)) (inr (omega (arith, lengths.0))))))
 
-pub admission_too_many : (a : Apart) (ts : List Task) → a ≡ apart_of ts → (m : ℕ) → 64 < a.n → admission (requirements_of ts) (periods_of ts) m ≡ not_admitted Tasks
+pub admission_too_many : (a : Apart) (ts : List Task) → a ≡ apart_of ts → (m : ℕ) → 64 < a.n → admission (requirements_of ts) (periods_of ts) m ≡ Err Tasks
 unfolding apart_of apart_to
 admission_too_many a ts q m h = let n : a.n ≡ length ts = ap (λ b. b.n) q in refused_tasks ts m (omega arith)
 
 -- ---- a slot of records taken apart
 
 abbrev pub unchanged : List Task → List ℕ → Refusal → SlotAfter
-unchanged ts bytes r = record { answer = Refused r; counts = counts_of ts; bytes = bytes }
+unchanged ts bytes r = record { answer = Err r; counts = counts_of ts; bytes = bytes }
 
 module _ (a : Apart) (ts : List Task) (q : a ≡ apart_of ts) (bytes : List ℕ) (m t : ℕ) where
   records : length ts ≡ a.n
@@ -203,7 +201,7 @@ each_first [] rest = refl
 each_first (k ∷ cs) rest = ap (λ ks. k ∷ ks) (each_first cs rest)
 
 -- A refusal: no count goes back, and the records have those that they had.
-pub refused_back : (d : Dealt) (r : Refusal) → (d.outcome ≡ Refused r) × (d.n ≡ 0) → (bytes : List ℕ) (ts : List Task) (due : SlotAfter) → unchanged ts bytes r ≡ due
+pub refused_back : (d : Dealt) (r : Refusal) → (d.outcome ≡ Err r) × (d.n ≡ 0) → (bytes : List ℕ) (ts : List Task) (due : SlotAfter) → unchanged ts bytes r ≡ due
     → Dealing d bytes ts due
 refused_back d r is bytes ts due e =
     let none-back : with_counts ts (each d.n (at d.counts)) ≡ ts = ap (λ j. with_counts ts (each j (at d.counts))) is.1 ∙ sym (with_nothing ts (at d.counts)) in
@@ -216,7 +214,7 @@ refused_back d r is bytes ts due e =
     }
 
 -- A slot: all counts go back, and the records have them.
-pub all_back : (a : Apart) (ts : List Task) → a ≡ apart_of ts → a.n ≤ 64 → (o : Outcome) (cs rest bytes : List ℕ) (due : SlotAfter) → length cs ≡ a.n
+pub all_back : (a : Apart) (ts : List Task) → a ≡ apart_of ts → a.n ≤ 64 → (o : Result Unit Refusal) (cs rest bytes : List ℕ) (due : SlotAfter) → length cs ≡ a.n
     → o ≡ due.answer → cs ≡ due.counts → bytes ≡ due.bytes → Dealing (record { outcome = o; counts = cs ++ rest; n = a.n }) bytes ts due
 all_back a ts q h o cs rest bytes due l answer counts written =
     record {

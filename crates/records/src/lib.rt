@@ -9,7 +9,7 @@ ghost use Rattle.records.specs.declared.Task.{Task};
 ghost use Rattle.records.specs.Door.{requirements_of, periods_of, counts_of, with_counts};
 ghost use Rattle.records.specs.Apart.{at_most64, nothing_of, with_task, apart_of, Whole, Dealing};
 
-use rule::{Admission, Outcome, Refusal};
+use rule::{Accepted, Refusal};
 
 // A record: the requirement, the period and the count of a task. A host program lends records too, so that its layout is C's.
 #[repr(C)]
@@ -32,7 +32,7 @@ struct Apart {
 // What a slot answered, and how many of these counts go back into the records.
 #[derive(Clone, Copy)]
 struct Dealt {
-    outcome: Outcome,
+    outcome: Result<(), Refusal>,
     counts: [u32; 64],
     n: usize,
 }
@@ -88,13 +88,13 @@ fn take_apart(tasks: &[Task]) -> Apart
 }
 
 // Admission of a set whose records are taken apart.
-fn admit_apart(apart: Apart, m: u32) -> Admission
+fn admit_apart(apart: Apart, m: u32) -> Result<Accepted, Refusal>
     requires { Whole apart }
     ensures { (ts : List Task) → apart ≡ apart_of ts → result ≡ admission (requirements_of ts) (periods_of ts) m }
 {
     let n = apart.n;
     if n > rule::TASKS_MOST {
-        return Admission::Refused(Refusal::Tasks);
+        return Err(Refusal::Tasks);
     }
     let requirements = apart.requirements;
     let periods = apart.periods;
@@ -102,7 +102,7 @@ fn admit_apart(apart: Apart, m: u32) -> Admission
 }
 
 // M, L and the spare of a set of records on m units, or the first refusal that holds. The counts are not looked at.
-pub fn admit(tasks: &[Task], m: u32) -> Admission
+pub fn admit(tasks: &[Task], m: u32) -> Result<Accepted, Refusal>
     ensures { result ≡ admission (requirements_of tasks.now) (periods_of tasks.now) m }
 {
     admit_apart(take_apart(tasks), m)
@@ -110,10 +110,10 @@ pub fn admit(tasks: &[Task], m: u32) -> Admission
 
 // A refusal: no count goes back.
 fn refused(refusal: Refusal) -> Dealt
-    ensures { (result.outcome ≡ Outcome.Refused refusal) × (result.n ≡ 0) }
+    ensures { (result.outcome ≡ Err refusal) × (result.n ≡ 0) }
 {
     Dealt {
-        outcome: Outcome::Refused(refusal),
+        outcome: Err(refusal),
         counts: [0; 64],
         n: 0,
     }
@@ -172,14 +172,14 @@ fn put_back(tasks: &mut [Task], dealt: Dealt)
 }
 
 // The answer, read once the counts are back.
-fn outcome_of(dealt: Dealt) -> Outcome
+fn outcome_of(dealt: Dealt) -> Result<(), Refusal>
     ensures { result ≡ dealt.outcome }
 {
     dealt.outcome
 }
 
 // One slot of a set of records on m units at time t: refusals 1 to 9, or the choice in the records' counts and in a byte for each task.
-pub fn slot(tasks: &mut [Task], bytes: &mut [u8], m: u32, t: u32) -> Outcome
+pub fn slot(tasks: &mut [Task], bytes: &mut [u8], m: u32, t: u32) -> Result<(), Refusal>
     ensures answer { result ≡ (slot_of (requirements_of tasks.old) (periods_of tasks.old) (counts_of tasks.old) bytes.old m t).answer }
     ensures bytes { bytes.new ≡ (slot_of (requirements_of tasks.old) (periods_of tasks.old) (counts_of tasks.old) bytes.old m t).bytes }
     ensures counts { tasks.new ≡ with_counts tasks.old (slot_of (requirements_of tasks.old) (periods_of tasks.old) (counts_of tasks.old) bytes.old m t).counts }

@@ -1,4 +1,5 @@
 -- The field of a set place by place: below n a task's own numbers, at n the spare's. Assumes nothing.
+use Rattle.std.specs.Prelude.{None, Option, Some}
 use mathlib.Core.Path.{◌≡◌, refl, sym, ap, ◌∙◌, subst}
 use mathlib.Core.Logic.{◌⊎◌, inl, inr}
 use mathlib.Core.Bool.{Bool, true, false, cond}
@@ -10,10 +11,9 @@ use borrow.Author.Tests.{lt-ltb, le-ltb}
 use lib.Dec.{ltb}
 use lib.IntN.{ℤ, pos, ◌-ℤ◌}
 use lib.ListN.{length}
-use Rattle.rule.specs.declared.Spare.{Spare}
-use Rattle.rule.specs.declared.Spare.TheVariants.{Nobody, Task}
+use Rattle.rule.specs.declared.Weight.{Weight}
 use Rattle.rule.specs.Places.{at, sum, count}
-use Rattle.rule.specs.Sets.{units_in_use, spare, task_at, spare_entry, field_with, field}
+use Rattle.rule.specs.Sets.{units_in_use, spare, task_at, spare_entry, field_with, field, weight}
 use Rattle.rule.specs.Layout.{placed, requirement_of, period_of, places_of}
 use Rattle.rule.proofs.Lags.{counted}
 use Rattle.rule.proofs.Signs.{difference_above}
@@ -27,29 +27,29 @@ unfolding placed
 placed_spare n task spares = rw (le-ltb n n (omega arith))
 
 -- A place is a task's, or the spare's.
-pub data Place (s : Spare) (n i : ℕ) : Type 0 where
+pub data Place (s : Option Weight) (n i : ℕ) : Type 0 where
   of_task : i < n → Place s n i
-  of_spare : (e p : ℕ) → s ≡ Task e p → i ≡ n → Place s n i
+  of_spare : (e p : ℕ) → s ≡ Some (weight e p) → i ≡ n → Place s n i
 
-pub place_of : (s : Spare) (n i : ℕ) → i < places_of s n → Place s n i
+pub place_of : (s : Option Weight) (n i : ℕ) → i < places_of s n → Place s n i
 unfolding places_of
-place_of Nobody n i l = of_task l
-place_of (Task e p) n i l = go (eq-or-lt_of_le (le_of_suc-le-suc l))
+place_of None n i l = of_task l
+place_of (Some w) n i l = go (eq-or-lt_of_le (le_of_suc-le-suc l))
   where
-    go : (i ≡ n) ⊎ (i < n) → Place (Task e p) n i
-    go (inl q) = of_spare e p refl q
+    go : (i ≡ n) ⊎ (i < n) → Place (Some w) n i
+    go (inl q) = of_spare w.e w.p refl q
     go (inr m) = of_task m
 
-task_is_place : (s : Spare) (n i : ℕ) → i < n → i < places_of s n
+task_is_place : (s : Option Weight) (n i : ℕ) → i < n → i < places_of s n
 unfolding places_of
-task_is_place Nobody n i l = l
-task_is_place (Task e p) n i l = omega arith
+task_is_place None n i l = l
+task_is_place (Some w) n i l = omega arith
 
 -- Where place n is past the last, there is no spare.
-pub past_last : (s : Spare) (n i : ℕ) → i < suc n → places_of s n ≤ i → s ≡ Nobody
+pub past_last : (s : Option Weight) (n i : ℕ) → i < suc n → places_of s n ≤ i → s ≡ None
 unfolding places_of
-past_last Nobody n i l h = refl
-past_last (Task e p) n i l h = absurd (omega arith)
+past_last None n i l h = refl
+past_last (Some w) n i l h = absurd (omega arith)
 
 module _ (es ps : List ℕ) where
   unfoldable pub size : ℕ
@@ -70,9 +70,9 @@ module _ (es ps : List ℕ) where
   unfolding field field_with size places_of
   field_size ks t = go (spare es ps)
     where
-      go : (s : Spare) → (field_with (units_in_use es ps) s es ps ks t).size ≡ places_of s (length es)
-      go Nobody = refl
-      go (Task e p) = refl
+      go : (s : Option Weight) → (field_with (units_in_use es ps) s es ps ks t).size ≡ places_of s (length es)
+      go None = refl
+      go (Some w) = refl
 
   -- What an entry of the field is: the spare's count may be below zero.
   pub field_entry_free : (ks : List ℕ) (t i : ℕ) → i < size → (field es ps ks t).entry i ≡ record {
@@ -92,13 +92,13 @@ module _ (es ps : List ℕ) where
       at_spare e p true = refl
       at_spare e p false = refl
 
-      go : (s : Spare) → i < places_of s (length es) → (field_with (units_in_use es ps) s es ps ks t).entry i ≡ record {
+      go : (s : Option Weight) → i < places_of s (length es) → (field_with (units_in_use es ps) s es ps ks t).entry i ≡ record {
         e = placed (length es) (at es) (requirement_of s) i;
         p = placed (length es) (at ps) (period_of s) i;
         k = cond (ltb i (length es)) (pos (at ks i)) rest;
       }
-      go Nobody l = rw (lt-ltb i (length es) l)
-      go (Task e p) l = at_spare e p (ltb i (length es))
+      go None l = rw (lt-ltb i (length es) l)
+      go (Some w) l = at_spare w.e w.p (ltb i (length es))
 
   -- Where the counts are no more than the units gave, the spare's is a number too.
   pub field_entry : (ks : List ℕ) (t i : ℕ) → i < size → sum (length ks) (at ks) ≤ units_in_use es ps * t
@@ -113,7 +113,7 @@ module _ (es ps : List ℕ) where
       go true = refl
       go false = difference_above (units_in_use es ps * t) (sum (length ks) (at ks)) h
 
-  pub no_spare_past : (ks : List ℕ) (t i : ℕ) → i < suc (length es) → (field es ps ks t).size ≤ i → spare es ps ≡ Nobody
+  pub no_spare_past : (ks : List ℕ) (t i : ℕ) → i < suc (length es) → (field es ps ks t).size ≤ i → spare es ps ≡ None
   unfolding size
   no_spare_past ks t i l h = past_last (spare es ps) (length es) i l (rw (field_size ks t) at h)
 
@@ -122,9 +122,9 @@ module _ (es ps : List ℕ) where
   unfolding size places_of sum
   count_tasks ks t test = rw (field_size ks t) (go (spare es ps))
     where
-      go : (s : Spare) → count (length es) test ≤ count (places_of s (length es)) test
-      go Nobody = omega arith
-      go (Task e p) = omega arith
+      go : (s : Option Weight) → count (length es) test ≤ count (places_of s (length es)) test
+      go None = omega arith
+      go (Some w) = omega arith
 
   -- ---- what stands at a task's place, and at the spare's
 
@@ -145,11 +145,11 @@ module _ (es ps : List ℕ) where
     unfolding count_at
     count_task ks t = placed_task (length es) (at ks) (units_in_use es ps * t - sum (length ks) (at ks)) i l
 
-  pub requirement_spare : (e p : ℕ) → spare es ps ≡ Task e p → requirement_at (length es) ≡ e
+  pub requirement_spare : (e p : ℕ) → spare es ps ≡ Some (weight e p) → requirement_at (length es) ≡ e
   unfolding requirement_at requirement_of
   requirement_spare e p q = placed_spare (length es) (at es) (requirement_of (spare es ps)) ∙ ap requirement_of q
 
-  pub period_spare : (e p : ℕ) → spare es ps ≡ Task e p → period_at (length es) ≡ p
+  pub period_spare : (e p : ℕ) → spare es ps ≡ Some (weight e p) → period_at (length es) ≡ p
   unfolding period_at period_of
   period_spare e p q = placed_spare (length es) (at ps) (period_of (spare es ps)) ∙ ap period_of q
 
@@ -158,7 +158,7 @@ module _ (es ps : List ℕ) where
   count_spare ks t = placed_spare (length es) (at ks) (units_in_use es ps * t - sum (length ks) (at ks))
 
   -- What holds of every task, and of a spare at place n, holds at every place.
-  pub at_places : (P : ℕ → Type 0) → ((i : ℕ) → i < length es → P i) → ((e p : ℕ) → spare es ps ≡ Task e p → P (length es))
+  pub at_places : (P : ℕ → Type 0) → ((i : ℕ) → i < length es → P i) → ((e p : ℕ) → spare es ps ≡ Some (weight e p) → P (length es))
       → (i : ℕ) → i < size → P i
   unfolding size
   at_places P task spares i l = go (place_of (spare es ps) (length es) i l)
@@ -168,7 +168,7 @@ module _ (es ps : List ℕ) where
       go (of_spare e p q r) = subst P (sym r) (spares e p q)
 
   -- A sum over all places is one over the tasks and the spare's part.
-  pub sum_places : (f : ℕ → ℕ) → (spare es ps ≡ Nobody → sum (length es) f ≡ sum size f)
-      × ((e p : ℕ) → spare es ps ≡ Task e p → sum (length es) f + f (length es) ≡ sum size f)
+  pub sum_places : (f : ℕ → ℕ) → (spare es ps ≡ None → sum (length es) f ≡ sum size f)
+      × ((e p : ℕ) → spare es ps ≡ Some (weight e p) → sum (length es) f + f (length es) ≡ sum size f)
   unfolding size places_of sum
   sum_places f = (λ q. rw q, λ e p q. rw q)

@@ -1,5 +1,6 @@
 -- Each refusal is given exactly when its condition holds and no earlier one does: the first check that holds is the one
 -- whose earlier ones do not. Assumes nothing.
+use Rattle.std.specs.Prelude.{Err, Ok, Result}
 use mathlib.Core.Path.{◌≡◌, refl, sym, ap, ◌∙◌, subst}
 use mathlib.Core.Logic.{◌↔◌}
 use mathlib.Core.Bool.{Bool, true, false, cond, not, ◌||◌, true≢false}
@@ -9,9 +10,6 @@ use native.Mathlib.Omega.{arith}
 use borrow.Author.Tests.{eqb-true, ne_eqb}
 use lib.Dec.{eqb}
 use Rattle.rule.specs.declared.Refusal.{Refusal}
-use Rattle.rule.specs.declared.Admission.TheVariants.{Refused as not_admitted}
-use Rattle.rule.specs.declared.Comparison.TheVariants.{Refused as not_compared}
-use Rattle.rule.specs.declared.Outcome.TheVariants.{Done, Refused}
 use Rattle.rule.specs.Answers.{number_of}
 use Rattle.rule.proofs.Tests.{or_right}
 use Rattle.rule.specs.Task.{compare}
@@ -116,33 +114,33 @@ module _ {A : Type 0} (by : Verdict → A) (refuse : Refusal → A) (refuses : (
   exact : (cs : List Check) (r : Refusal) → (by (first cs) ≡ refuse r) ↔ Given cs r
   exact cs r = (λ q. first_given cs r (answered (first cs) r q), λ g. ap by (given_first g) ∙ refuses r)
 
-pub admission_refusal : (es ps : List ℕ) (m : ℕ) (r : Refusal) → (admission es ps m ≡ not_admitted r) ↔ Given (admission_checks es ps m) r
+pub admission_refusal : (es ps : List ℕ) (m : ℕ) (r : Refusal) → (admission es ps m ≡ Err r) ↔ Given (admission_checks es ps m) r
 unfolding admission admission_by
 admission_refusal es ps m r =
-    exact (λ v. admission_by v es ps) not_admitted (λ r. refl) (λ r q. let z : ◌≡◌ {A = ℕ} 0 1 = cc in omega arith) (λ r r' q. cc)
+    exact (λ v. admission_by v es ps) Err (λ r. refl) (λ r q. let z : ◌≡◌ {A = ℕ} 0 1 = cc in omega arith) (λ r r' q. cc)
     (admission_checks es ps m) r
 
-pub comparison_refusal : (e p e' p' t : ℕ) (r : Refusal) → (comparison e p e' p' t ≡ not_compared r) ↔ Given (comparison_checks e p e' p' t) r
+pub comparison_refusal : (e p e' p' t : ℕ) (r : Refusal) → (comparison e p e' p' t ≡ Err r) ↔ Given (comparison_checks e p e' p' t) r
 unfolding comparison comparison_by
 comparison_refusal e p e' p' t r =
-    exact (λ v. comparison_by v (compare t e p e' p')) not_compared (λ r. refl) (λ r q. let z : ◌≡◌ {A = ℕ} 0 1 = cc in omega arith)
+    exact (λ v. comparison_by v (compare t e p e' p')) Err (λ r. refl) (λ r q. let z : ◌≡◌ {A = ℕ} 0 1 = cc in omega arith)
     (λ r r' q. cc) (comparison_checks e p e' p' t) r
 
-not_done : (r : Refusal) → Done ≡ Refused r → ⊥
+not_done : (r : Refusal) → ◌≡◌ {A = Result Unit Refusal} (Ok tt) (Err r) → ⊥
 not_done r q = let z : ◌≡◌ {A = ℕ} 0 1 = cc in omega arith
 
-one_refused : (r r' : Refusal) → Refused r ≡ Refused r' → r ≡ r'
+one_refused : (r r' : Refusal) → ◌≡◌ {A = Result Unit Refusal} (Err r) (Err r') → r ≡ r'
 one_refused r r' q = cc
 
-pub slot_refusal : (es ps ks bytes : List ℕ) (m t : ℕ) (r : Refusal) → ((slot es ps ks bytes m t).answer ≡ Refused r) ↔ Given (slot_checks es ps ks bytes m t) r
+pub slot_refusal : (es ps ks bytes : List ℕ) (m t : ℕ) (r : Refusal) → ((slot es ps ks bytes m t).answer ≡ Err r) ↔ Given (slot_checks es ps ks bytes m t) r
 unfolding slot slot_by
 slot_refusal es ps ks bytes m t r =
-    exact (λ v. (slot_by v es ps ks bytes t).answer) Refused (λ r. refl) not_done one_refused (slot_checks es ps ks bytes m t) r
+    exact (λ v. (slot_by v es ps ks bytes t).answer) Err (λ r. refl) not_done one_refused (slot_checks es ps ks bytes m t) r
 
-pub listing_refusal : (es ps ks bytes : List ℕ) (m t : ℕ) (r : Refusal) → ((listing es ps ks bytes m t).answer ≡ Refused r) ↔ Given (listing_checks es ps ks bytes m t) r
+pub listing_refusal : (es ps ks bytes : List ℕ) (m t : ℕ) (r : Refusal) → ((listing es ps ks bytes m t).answer ≡ Err r) ↔ Given (listing_checks es ps ks bytes m t) r
 unfolding listing listing_by
 listing_refusal es ps ks bytes m t r =
-    exact (λ v. (listing_by v es ps ks bytes t).answer) Refused (λ r. refl) not_done one_refused (listing_checks es ps ks bytes m t) r
+    exact (λ v. (listing_by v es ps ks bytes t).answer) Err (λ r. refl) not_done one_refused (listing_checks es ps ks bytes m t) r
 
 -- ---- the order is document 01's
 

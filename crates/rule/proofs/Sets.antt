@@ -1,8 +1,9 @@
 -- What holds of a set that passes refusals 2 to 6. Every period divides L, so each task's share e·L/p is exact and between 0 and L; the
 -- load is the sum of the shares, and M is the least number of units that covers it, so the room is below L and the spare's weight below 1.
+use Rattle.std.specs.Prelude.{None, Option, Some}
 use mathlib.Core.Bool.{Bool, true, false, cond, not}
 use mathlib.Core.List.{List}
-use mathlib.Core.Path.{◌≡◌, refl, ap}
+use mathlib.Core.Path.{◌≡◌, refl, ap, sym}
 use Prim.Native.Nat.{ℕ, ◌+◌, ◌*◌, ◌/◌, ◌≤◌, ◌<◌, ◌∣◌}
 use native.Mathlib.Nat.{div-mul_cancel, dvd-mul_left_of_dvd, lt_of_mul-lt-mul_right, mul_comm, mul-lt-mul_of_pos_right, mul-pos, zero-mul}
 use native.Mathlib.Omega.{arith}
@@ -13,11 +14,11 @@ use Rattle.numbers.specs.Divide.{gcd, lowest_terms}
 use Rattle.numbers.proofs.Common.{each_divides_lcm_all, lcm_all_pos}
 use Rattle.numbers.proofs.Euclid.{lowest_same_value, lowest_above_pos, lowest_below_le, lowest_below_divides, lowest_lt}
 use Rattle.numbers.proofs.Quotient.{le_of_products, round_up_least}
-use Rattle.rule.specs.declared.Spare.{Spare}
-use Rattle.rule.specs.declared.Spare.TheVariants.{Nobody, Task}
+use Rattle.rule.specs.Layout.{requirement_of, period_of}
+use Rattle.rule.specs.declared.Weight.{Weight}
 use Rattle.rule.specs.Limits.{within, valid, tasks_most, units_most, period_most, multiple_most}
 use Rattle.rule.specs.Places.{at}
-use Rattle.rule.specs.Sets.{multiple, load, units_in_use, room, spare}
+use Rattle.rule.specs.Sets.{multiple, load, units_in_use, room, spare, weight}
 use Rattle.rule.specs.Refusals.{passed, first, invalid_place, set_checks}
 use Rattle.rule.proofs.Places.{sum_lt, lowest_le, lowest_first, lowest_found, lowest_none}
 use Rattle.rule.proofs.Limits.{within_numbers, bounded_numbers}
@@ -130,19 +131,19 @@ pub record SpareTask (es ps : List ℕ) (e p : ℕ) : Type 0 where
   pub takes_room : e * multiple ps ≡ room es ps * p
 
 module _ (es ps : List ℕ) (set : ValidSet es ps) where
-  abbrev spare_is : Bool → Spare
-  spare_is test = cond test (Task (room es ps / gcd (room es ps) (multiple ps)) (multiple ps / gcd (room es ps) (multiple ps))) Nobody
+  abbrev spare_is : Bool → Option Weight
+  spare_is test = cond test (Some (weight (room es ps / gcd (room es ps) (multiple ps)) (multiple ps / gcd (room es ps) (multiple ps)))) None
 
-  pub spare_task : (e p : ℕ) → spare es ps ≡ Task e p → SpareTask es ps e p
-  unfolding spare lowest_terms
+  pub spare_task : (e p : ℕ) → spare es ps ≡ Some (weight e p) → SpareTask es ps e p
+  unfolding spare lowest_terms requirement_of period_of
   spare_task e p is = go (ltb 0 (room es ps)) refl is
     where
-      go : (test : Bool) → ltb 0 (room es ps) ≡ test → spare_is test ≡ Task e p → SpareTask es ps e p
+      go : (test : Bool) → ltb 0 (room es ps) ≡ test → spare_is test ≡ Some (weight e p) → SpareTask es ps e p
       go true h q =
           let r = room es ps in
           let l = multiple ps in
-          let e-is : e ≡ r / gcd r l = cc in
-          let p-is : p ≡ l / gcd r l = cc in
+          let e-is : e ≡ r / gcd r l = sym (ap requirement_of q) in
+          let p-is : p ≡ l / gcd r l = sym (ap period_of q) in
           record {
             requirement_pos = rw e-is (lowest_above_pos r l (ltb-true 0 r h));
             requirement_lt = rw (e-is, p-is) (lowest_lt r l (room_lt es ps set));
@@ -152,11 +153,11 @@ module _ (es ps : List ℕ) (set : ValidSet es ps) where
           }
       go false h q = absurd (let z : ◌≡◌ {A = ℕ} 0 1 = cc in omega arith)
 
-  pub no_spare : spare es ps ≡ Nobody → load es ps ≡ units_in_use es ps * multiple ps
+  pub no_spare : spare es ps ≡ None → load es ps ≡ units_in_use es ps * multiple ps
   unfolding spare lowest_terms
   no_spare is = go (ltb 0 (room es ps)) refl is
     where
-      go : (test : Bool) → ltb 0 (room es ps) ≡ test → spare_is test ≡ Nobody → load es ps ≡ units_in_use es ps * multiple ps
+      go : (test : Bool) → ltb 0 (room es ps) ≡ test → spare_is test ≡ None → load es ps ≡ units_in_use es ps * multiple ps
       go true h q = absurd (let z : ◌≡◌ {A = ℕ} 0 1 = cc in omega arith)
       go false h q = omega (arith, load_and_room es ps set, ltb-false 0 (room es ps) h)
 
@@ -182,8 +183,8 @@ pub record AcceptedSet (es ps : List ℕ) (m : ℕ) : Type 0 where
   pub in_use_pos : 0 < units_in_use es ps
   pub in_use_le : units_in_use es ps ≤ m
   pub room_lt : room es ps < multiple ps
-  pub spare_task : (e p : ℕ) → spare es ps ≡ Task e p → SpareTask es ps e p
-  pub no_spare : spare es ps ≡ Nobody → load es ps ≡ units_in_use es ps * multiple ps
+  pub spare_task : (e p : ℕ) → spare es ps ≡ Some (weight e p) → SpareTask es ps e p
+  pub no_spare : spare es ps ≡ None → load es ps ≡ units_in_use es ps * multiple ps
 
 pub accepted_set : (es ps : List ℕ) (m : ℕ) → length ps ≡ length es → first (set_checks es ps m) ≡ passed → AcceptedSet es ps m
 unfolding set_checks

@@ -1,13 +1,8 @@
 -- The public entries as total functions: for every input the answer and every lent list afterwards.
-use Rattle.std.specs.Prelude.{Bool, List, ◌++◌, ℕ, zero, suc, ◌+◌, length, take, drop}
+use Rattle.std.specs.Prelude.{Bool, Result, Ok, Err, List, ◌++◌, ℕ, zero, suc, ◌+◌, length, take, drop}
+use Rattle.rule.specs.declared.Refusal.{Refusal}
 use Rattle.rule.specs.declared.Order.{Order}
 use Rattle.rule.specs.declared.Accepted.{Accepted}
-use Rattle.rule.specs.declared.Admission.{Admission}
-use Rattle.rule.specs.declared.Admission.TheVariants.{Accepted as accepted, Refused as not_admitted}
-use Rattle.rule.specs.declared.Comparison.{Comparison}
-use Rattle.rule.specs.declared.Comparison.TheVariants.{Answer, Refused as not_compared}
-use Rattle.rule.specs.declared.Outcome.{Outcome}
-use Rattle.rule.specs.declared.Outcome.TheVariants.{Done, Refused}
 use Rattle.rule.specs.declared.Ran.{Ran}
 use Rattle.rule.specs.Places.{at, bit, each}
 use Rattle.rule.specs.Task.{standing, compare}
@@ -22,27 +17,27 @@ use Rattle.rule.specs.Answers.{mark}
 unfoldable pub acceptance : List ℕ → List ℕ → Accepted
 acceptance es ps = record { units = units_in_use es ps; multiple = multiple ps; spare = spare es ps }
 
-unfoldable pub admission_by : Verdict → List ℕ → List ℕ → Admission
-admission_by passed es ps = accepted (acceptance es ps)
-admission_by (refused r) es ps = not_admitted r
+unfoldable pub admission_by : Verdict → List ℕ → List ℕ → Result Accepted Refusal
+admission_by passed es ps = Ok (acceptance es ps)
+admission_by (refused r) es ps = Err r
 
-unfoldable pub admission : List ℕ → List ℕ → ℕ → Admission
+unfoldable pub admission : List ℕ → List ℕ → ℕ → Result Accepted Refusal
 admission es ps m = admission_by (first (admission_checks es ps m)) es ps
 
 -- ---- comparison
 
-unfoldable pub comparison_by : Verdict → Order → Comparison
-comparison_by passed o = Answer o
-comparison_by (refused r) o = not_compared r
+unfoldable pub comparison_by : Verdict → Order → Result Order Refusal
+comparison_by passed o = Ok o
+comparison_by (refused r) o = Err r
 
 -- "it answers first, second or tie"
-unfoldable pub comparison : (e p e' p' t : ℕ) → Comparison
+unfoldable pub comparison : (e p e' p' t : ℕ) → Result Order Refusal
 comparison e p e' p' t = let o = compare t e p e' p' in comparison_by (first (comparison_checks e p e' p' t)) o
 
 -- ---- one slot
 
 pub record SlotAfter : Type 0 where
-  pub answer : Outcome
+  pub answer : Result Unit Refusal
   pub counts : List ℕ
   pub bytes : List ℕ
 
@@ -61,8 +56,8 @@ bytes_after es ps ks t = each (length es) (λ i. bit (runs_at es ps ks t i))
 -- "Every refusal leaves every lent list unchanged."
 unfoldable pub slot_by : Verdict → List ℕ → List ℕ → List ℕ → List ℕ → ℕ → SlotAfter
 slot_by passed es ps ks bytes t =
-    record { answer = Done; counts = counts_after es ps ks t; bytes = bytes_after es ps ks t }
-slot_by (refused r) es ps ks bytes t = record { answer = Refused r; counts = ks; bytes = bytes }
+    record { answer = Ok tt; counts = counts_after es ps ks t; bytes = bytes_after es ps ks t }
+slot_by (refused r) es ps ks bytes t = record { answer = Err r; counts = ks; bytes = bytes }
 
 unfoldable pub slot : List ℕ → List ℕ → List ℕ → List ℕ → ℕ → ℕ → SlotAfter
 slot es ps ks bytes m t = slot_by (first (slot_checks es ps ks bytes m t)) es ps ks bytes t
@@ -75,7 +70,7 @@ pub record RunAfter : Type 0 where
   pub log : List ℕ
 
 -- Stopped here with this answer: what is not done is as it was.
-abbrev pub stopped : Outcome → List ℕ → List ℕ → RunAfter
+abbrev pub stopped : Result Unit Refusal → List ℕ → List ℕ → RunAfter
 stopped o ks log = record { answer = record { done = 0; end = o }; counts = ks; log = log }
 
 -- One slot more, that wrote these bytes, before the rest of a run.
@@ -88,14 +83,14 @@ one_more bytes r =
     }
 
 -- What a slot's answer makes of the rest of the run: go on if it was done, stop if it was refused.
-unfoldable pub after_slot : Outcome → List ℕ → List ℕ → List ℕ → RunAfter → RunAfter
-after_slot Done ks log bytes rest = one_more bytes rest
-after_slot (Refused r) ks log bytes rest = stopped (Refused r) ks log
+unfoldable pub after_slot : Result Unit Refusal → List ℕ → List ℕ → List ℕ → RunAfter → RunAfter
+after_slot (Ok tt) ks log bytes rest = one_more bytes rest
+after_slot (Err r) ks log bytes rest = stopped (Err r) ks log
 
 -- "it equals that many single slots, stops at the first refusal, says how many slots were done, and leaves the log beyond
 -- them as it was": a slot on the first n bytes of the log, and the rest of the run on the others.
 unfoldable pub slots_from : ℕ → List ℕ → List ℕ → ℕ → ℕ → List ℕ → List ℕ → RunAfter
-slots_from zero es ps m t ks log = stopped Done ks log
+slots_from zero es ps m t ks log = stopped (Ok tt) ks log
 slots_from (suc s) es ps m t ks log =
     let now = slot es ps ks (take (length es) log) m t in
     let rest = slots_from s es ps m (suc t) now.counts (drop (length es) log) in
@@ -103,7 +98,7 @@ slots_from (suc s) es ps m t ks log =
 
 unfoldable pub run_by : Verdict → ℕ → List ℕ → List ℕ → List ℕ → List ℕ → ℕ → ℕ → RunAfter
 run_by passed s es ps ks log m t = slots_from s es ps m t ks log
-run_by (refused r) s es ps ks log m t = stopped (Refused r) ks log
+run_by (refused r) s es ps ks log m t = stopped (Err r) ks log
 
 -- "A run checks 10 first, then 1"; "A run of 0 slots that passes 10 and 1 answers 0 done; 2 to 9 are not checked."
 unfoldable pub run : ℕ → List ℕ → List ℕ → List ℕ → List ℕ → ℕ → ℕ → RunAfter
@@ -112,7 +107,7 @@ run s es ps ks log m t = run_by (first (run_checks s es ps ks log)) s es ps ks l
 -- ---- a listing
 
 pub record ListingAfter : Type 0 where
-  pub answer : Outcome
+  pub answer : Result Unit Refusal
   pub bytes : List ℕ
 
 -- The byte of the task at a place.
@@ -120,8 +115,8 @@ unfoldable pub mark_at : List ℕ → List ℕ → List ℕ → ℕ → ℕ → 
 mark_at es ps ks t i = mark (standing t (task_at es ps ks i))
 
 unfoldable pub listing_by : Verdict → List ℕ → List ℕ → List ℕ → List ℕ → ℕ → ListingAfter
-listing_by passed es ps ks bytes t = record { answer = Done; bytes = each (length es) (mark_at es ps ks t) }
-listing_by (refused r) es ps ks bytes t = record { answer = Refused r; bytes = bytes }
+listing_by passed es ps ks bytes t = record { answer = Ok tt; bytes = each (length es) (mark_at es ps ks t) }
+listing_by (refused r) es ps ks bytes t = record { answer = Err r; bytes = bytes }
 
 unfoldable pub listing : List ℕ → List ℕ → List ℕ → List ℕ → ℕ → ℕ → ListingAfter
 listing es ps ks bytes m t = listing_by (first (listing_checks es ps ks bytes m t)) es ps ks bytes t

@@ -1,10 +1,9 @@
 -- Document 01, "Records, time, counts": L, the load, M, the spare, and the field of a set at a time.
-use Rattle.std.specs.Prelude.{cond, List, ℕ, suc, ◌*◌, ◌/◌, ◌-◌, ltb, pos, ◌-ℤ◌, length}
+use Rattle.std.specs.Prelude.{cond, List, ℕ, suc, ◌*◌, ◌/◌, ◌-◌, ltb, pos, ◌-ℤ◌, length, None, Option, Some}
 use Rattle.numbers.specs.Divide.{lowest_terms}
 use Rattle.numbers.specs.Multiple.{lcm_all}
 use Rattle.numbers.specs.Round.{round_up}
-use Rattle.rule.specs.declared.Spare.{Spare}
-use Rattle.rule.specs.declared.Spare.TheVariants.{Nobody, Task}
+use Rattle.rule.specs.declared.Weight.{Weight}
 use Rattle.rule.specs.Places.{at, sum}
 use Rattle.rule.specs.Task.{Entry}
 
@@ -24,12 +23,16 @@ units_in_use es ps = round_up (load es ps) (multiple ps)
 unfoldable pub room : List ℕ → List ℕ → ℕ
 room es ps = units_in_use es ps * multiple ps - load es ps
 
+-- A weight of e slots in every p.
+abbrev pub weight : ℕ → ℕ → Weight
+weight e p = record { e = e; p = p }
+
 -- "If M·L exceeds the load there is a spare, .. with weight (M·L - load)/L; its fraction is reduced to lowest terms by
 -- Euclid's rule."
-unfoldable pub spare : List ℕ → List ℕ → Spare
+unfoldable pub spare : List ℕ → List ℕ → Option Weight
 spare es ps =
     let f = lowest_terms (room es ps) (multiple ps) in
-    cond (ltb 0 (room es ps)) (Task f.above f.below) Nobody
+    cond (ltb 0 (room es ps)) (Some (weight f.above f.below)) None
 
 -- A field: the tasks of a set at a time, by place, the spare last if there is one.
 pub record Field : Type 0 where
@@ -45,12 +48,12 @@ unfoldable pub spare_entry : ℕ → ℕ → (units : ℕ) → List ℕ → ℕ 
 spare_entry e p units ks t = record { e = e; p = p; k = pos (units * t) -ℤ pos (sum (length ks) (at ks)) }
 
 -- The field of a set with so many units in use and this spare, "one more task at place n".
-unfoldable pub field_with : (units : ℕ) → Spare → List ℕ → List ℕ → List ℕ → ℕ → Field
-field_with units Nobody es ps ks t = record { size = length es; entry = task_at es ps ks }
-field_with units (Task e p) es ps ks t =
+unfoldable pub field_with : (units : ℕ) → Option Weight → List ℕ → List ℕ → List ℕ → ℕ → Field
+field_with units None es ps ks t = record { size = length es; entry = task_at es ps ks }
+field_with units (Some w) es ps ks t =
     record {
       size = suc (length es);
-      entry = λ i. cond (ltb i (length es)) (task_at es ps ks i) (spare_entry e p units ks t);
+      entry = λ i. cond (ltb i (length es)) (task_at es ps ks i) (spare_entry w.e w.p units ks t);
     }
 
 -- The field of a set at a time.

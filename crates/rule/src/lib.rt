@@ -19,8 +19,8 @@ pub const TIME_MOST: u32 = 16777215;
 
 pub const SLOTS_MOST: u32 = 1024;
 
-// A symbol of a string: the sign of a difference, written -, 0 or +.
-#[derive(Clone, Copy)]
+// A symbol of a string: the sign of a difference, written -, 0 or +, and "- below 0 below +" is their order here.
+#[derive(Clone, Copy, PartialEq, Eq, PartialOrd, Ord)]
 pub enum Symbol {
     Minus,
     Zero,
@@ -28,7 +28,7 @@ pub enum Symbol {
 }
 
 // How a task stands: the sign of its lag.
-#[derive(Clone, Copy)]
+#[derive(Clone, Copy, PartialEq, Eq)]
 pub enum Standing {
     Ahead,
     Punctual,
@@ -36,7 +36,7 @@ pub enum Standing {
 }
 
 // Which of two tasks goes first by their strings.
-#[derive(Clone, Copy)]
+#[derive(Clone, Copy, PartialEq, Eq)]
 pub enum Order {
     First,
     Second,
@@ -44,7 +44,7 @@ pub enum Order {
 }
 
 // Why a call was refused, with what the refusal carries.
-#[derive(Clone, Copy)]
+#[derive(Clone, Copy, PartialEq, Eq)]
 pub enum Refusal {
     // 1: lent lists differ in length.
     Lengths,
@@ -68,47 +68,26 @@ pub enum Refusal {
     Slots,
 }
 
-// The spare: nobody, or a task of e slots in p.
-#[derive(Clone, Copy)]
-pub enum Spare {
-    Nobody,
-    Task { e: u32, p: u32 },
+// What a task asks: e slots in every p.
+#[derive(Clone, Copy, PartialEq, Eq)]
+pub struct Weight {
+    pub e: u32,
+    pub p: u32,
 }
 
-// An accepted set: M, L and the spare.
-#[derive(Clone, Copy)]
+// What admission answers of a set that it accepts: M, L and the spare, or that there is none.
+#[derive(Clone, Copy, PartialEq, Eq)]
 pub struct Accepted {
     pub units: u32,
     pub multiple: u32,
-    pub spare: Spare,
+    pub spare: Option<Weight>,
 }
 
-// The answer of admission.
-#[derive(Clone, Copy)]
-pub enum Admission {
-    Accepted(Accepted),
-    Refused(Refusal),
-}
-
-// The answer of the comparison.
-#[derive(Clone, Copy)]
-pub enum Comparison {
-    Answer(Order),
-    Refused(Refusal),
-}
-
-// The answer of a slot and of a listing, and how a run ended.
-#[derive(Clone, Copy)]
-pub enum Outcome {
-    Done,
-    Refused(Refusal),
-}
-
-// The answer of a run: how many slots were done, and how it ended.
-#[derive(Clone, Copy)]
+// The answer of a run: how many slots were done, and what refused the next one, if it was not the last.
+#[derive(Clone, Copy, PartialEq, Eq)]
 pub struct Ran {
     pub done: u32,
-    pub end: Outcome,
+    pub end: Result<(), Refusal>,
 }
 
 // The number of a refusal in document 01.
@@ -130,16 +109,11 @@ pub fn number_of(r: Refusal) -> u32
 }
 
 // Is the period from 2 to `most`, and the requirement from 1 to p - 1?
+#[tactic(auto, unfolding(crate::specs::Limits::bounded_by))]
 pub fn bounded(most: u32, e: u32, p: u32) -> bool
     ensures { result ≡ bounded_by most e p }
 {
-    if p < 2 {
-        return false;
-    }
-    if p > most {
-        return false;
-    }
-    1 <= e && e <= p - 1
+    2 <= p && p <= most && 1 <= e && e <= p - 1
 }
 
 // Is a record within its limits?

@@ -1,5 +1,6 @@
 -- A run of a set, by what is asked first: too many slots or another length is the run's own refusal, no slots are none done, a refusal
 -- of admission is that of the first slot, and of an accepted set the laid-out field is run. Assumes nothing.
+use Rattle.std.specs.Prelude.{Err, Ok}
 use mathlib.Core.Path.{◌≡◌, sym, ap, ◌∙◌}
 use mathlib.Core.Bool.{true, not, ◌||◌}
 use mathlib.Core.List.{List, [], ◌∷◌}
@@ -9,8 +10,6 @@ use borrow.Author.Tests.{eq-eqb, lt-ltb, le-ltb}
 use lib.Dec.{eqb}
 use lib.ListN.{length, take, drop, length-take}
 use Rattle.rule.specs.declared.Accepted.{Accepted}
-use Rattle.rule.specs.declared.Admission.TheVariants.{Accepted as accepted, Refused as not_admitted}
-use Rattle.rule.specs.declared.Outcome.TheVariants.{Done, Refused}
 use Rattle.rule.specs.declared.Refusal.{Refusal}
 use Rattle.rule.specs.declared.Refusal.TheVariants.{Lengths, Slots}
 use Rattle.rule.specs.Limits.{slots_most}
@@ -26,7 +25,7 @@ use Rattle.run.proofs.Laid.{Laid}
 
 -- ---- an accepted set
 
-module _ (es ps : List ℕ) (m : ℕ) (a : Accepted) (q : admission es ps m ≡ accepted a) (laid : Layout) (out : laid ≡ lay_out es ps a.spare) where
+module _ (es ps : List ℕ) (m : ℕ) (a : Accepted) (q : admission es ps m ≡ Ok a) (laid : Layout) (out : laid ≡ lay_out es ps a.spare) where
   tells : (length ps ≡ length es) × (first (set_checks es ps m) ≡ passed) × (a ≡ acceptance es ps)
   tells = accepted_tells es ps m a q
 
@@ -49,13 +48,13 @@ module _ (es ps : List ℕ) (m : ℕ) (a : Accepted) (q : admission es ps m ≡ 
 -- ---- what is asked first
 
 module _ (s : ℕ) (es ps ks log : List ℕ) (m t : ℕ) where
-  pub run_too_long : slots_most < s → stopped (Refused Slots) ks log ≡ run s es ps ks log m t
+  pub run_too_long : slots_most < s → stopped (Err Slots) ks log ≡ run s es ps ks log m t
   unfolding run run_by run_checks first
   run_too_long h = rw (lt-ltb slots_most s h)
 
   module _ (few : s ≤ slots_most) where
     pub run_lengths : (differ (length es) (length ps ∷ length ks ∷ []) || not (eqb (length log) (s * length es))) ≡ true
-        → stopped (Refused Lengths) ks log ≡ run s es ps ks log m t
+        → stopped (Err Lengths) ks log ≡ run s es ps ks log m t
     unfolding run run_by run_checks first
     run_lengths h = rw (le-ltb slots_most s few, h)
 
@@ -66,11 +65,11 @@ module _ (s : ℕ) (es ps ks log : List ℕ) (m t : ℕ) where
       run_slots =
           rw (le-ltb slots_most s few, eq-eqb (length ps) (length es) same, eq-eqb (length ks) (length es) counts, eq-eqb (length log) (s * length es) whole)
 
-      pub run_none : s ≡ 0 → stopped Done ks log ≡ run s es ps ks log m t
+      pub run_none : s ≡ 0 → stopped (Ok tt) ks log ≡ run s es ps ks log m t
       unfolding slots_from
       run_none q = sym (ap (λ k. slots_from k es ps m t ks log) q) ∙ run_slots
 
-      pub run_not_admitted : (s ≡ 0 → ⊥) → (r : Refusal) → admission es ps m ≡ not_admitted r → stopped (Refused r) ks log ≡ run s es ps ks log m t
+      pub run_not_admitted : (s ≡ 0 → ⊥) → (r : Refusal) → admission es ps m ≡ Err r → stopped (Err r) ks log ≡ run s es ps ks log m t
       unfolding slots_from after_slot
       run_not_admitted some r q =
           let one : s ≡ suc (s - 1) = omega (arith, some) in

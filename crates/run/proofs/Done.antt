@@ -1,4 +1,5 @@
 -- How many slots of a run are done: no more than are asked, none above 1,024, and only within the calendar. Assumes nothing.
+use Rattle.std.specs.Prelude.{Err, Ok, Result}
 use mathlib.Core.Path.{◌≡◌, refl, sym, ap}
 use mathlib.Core.Bool.{Bool, true, false, cond}
 use mathlib.Core.List.{List}
@@ -8,8 +9,7 @@ use native.Mathlib.Omega.{arith}
 use borrow.Author.Tests.{ltb-true, ltb-false}
 use lib.Dec.{ltb}
 use lib.ListN.{length, take, drop}
-use Rattle.rule.specs.declared.Outcome.{Outcome}
-use Rattle.rule.specs.declared.Outcome.TheVariants.{Done, Refused}
+use Rattle.rule.specs.declared.Refusal.{Refusal}
 use Rattle.rule.specs.Limits.{time_most, slots_most}
 use Rattle.rule.specs.Refusals.{Verdict, passed, refused, first, run_checks}
 use Rattle.rule.specs.Outcomes.{slot, RunAfter, after_slot, slots_from, run_by, run}
@@ -18,10 +18,10 @@ use Rattle.run.proofs.Accepted.{run_too_long}
 
 module _ (es ps : List ℕ) (m : ℕ) where
   after_few : (s : ℕ) (ks log bytes : List ℕ) (rest : RunAfter) → rest.answer.done ≤ s
-      → (o : Outcome) → (after_slot o ks log bytes rest).answer.done ≤ suc s
+      → (o : Result Unit Refusal) → (after_slot o ks log bytes rest).answer.done ≤ suc s
   unfolding after_slot
-  after_few s ks log bytes rest h Done = omega arith
-  after_few s ks log bytes rest h (Refused r) = omega arith
+  after_few s ks log bytes rest h (Ok tt) = omega arith
+  after_few s ks log bytes rest h (Err r) = omega arith
 
   slots_few : (s t : ℕ) (ks log : List ℕ) → (slots_from s es ps m t ks log).answer.done ≤ s
   unfolding slots_from
@@ -32,10 +32,10 @@ module _ (es ps : List ℕ) (m : ℕ) where
       after_few s ks log now.bytes (slots_from s es ps m (suc t) now.counts rest) (slots_few s (suc t) now.counts rest) now.answer
 
   after_early : (t : ℕ) (ks log bytes : List ℕ) (rest : RunAfter) → suc t + rest.answer.done ≤ max (suc t) (suc time_most)
-      → (o : Outcome) → (o ≡ Done → t ≤ time_most) → t + (after_slot o ks log bytes rest).answer.done ≤ max t (suc time_most)
+      → (o : Result Unit Refusal) → (o ≡ Ok tt → t ≤ time_most) → t + (after_slot o ks log bytes rest).answer.done ≤ max t (suc time_most)
   unfolding after_slot
-  after_early t ks log bytes rest h Done early = let e = early refl in omega arith
-  after_early t ks log bytes rest h (Refused r) early = omega arith
+  after_early t ks log bytes rest h (Ok tt) early = let e = early refl in omega arith
+  after_early t ks log bytes rest h (Err r) early = omega arith
 
   slots_early : (s t : ℕ) (ks log : List ℕ) → t + (slots_from s es ps m t ks log).answer.done ≤ max t (suc time_most)
   unfolding slots_from

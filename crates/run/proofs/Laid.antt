@@ -1,11 +1,11 @@
 -- A turn on the laid-out field of an accepted set is a turn of the set's own slots. Assumes nothing.
+use Rattle.std.specs.Prelude.{Err, Ok}
 use mathlib.Core.Path.{◌≡◌, sym, ap, ◌∙◌}
 use mathlib.Core.List.{List, ◌++◌}
 use Prim.Native.Nat.{ℕ, suc, ◌+◌, ◌-◌, ◌<◌}
 use native.Mathlib.Numerals.{add-one}
 use native.Mathlib.Omega.{arith}
 use lib.ListN.{length, take, drop, take-append-drop}
-use Rattle.rule.specs.declared.Outcome.TheVariants.{Done, Refused}
 use Rattle.rule.specs.declared.Refusal.{Refusal}
 use Rattle.rule.specs.Sets.{units_in_use}
 use Rattle.rule.specs.Refusals.{passed, first, set_checks}
@@ -51,17 +51,17 @@ module _ (es ps : List ℕ) (m : ℕ) (es' ps' : List ℕ) (units : ℕ) (L : La
   abbrev log_after : List ℕ
   log_after = take from log ++ (after.bytes ++ drop (from + n - from) (drop from log))
 
-  turn_refused : (x : Refusal) → after.answer ≡ Refused x
-      → record { answer = record { done = d; end = Refused x }; counts = after.counts; log = log_after } ≡ slots_from s es ps m t ks₀ log₀
+  turn_refused : (x : Refusal) → after.answer ≡ Err x
+      → record { answer = record { done = d; end = Err x }; counts = after.counts; log = log_after } ≡ slots_from s es ps m t ks₀ log₀
   turn_refused x q =
       let now = refused_slot es ps ks (take n (drop from log)) m (t + d) x (ap (λ r. r.answer) (sym now_is) ∙ q) in
-      ap (λ r. record { answer = record { done = d; end = Refused x }; counts = r.counts; log = take from log ++ (r.bytes ++ drop (from + n - from) (drop from log)) }) (now_is ∙ now)
-      ∙ ap (λ k. record { answer = record { done = d; end = Refused x }; counts = ks; log = take from log ++ (take n (drop from log) ++ drop k (drop from log)) }) part_of
-      ∙ ap (λ l. record { answer = record { done = d; end = Refused x }; counts = ks; log = l })
+      ap (λ r. record { answer = record { done = d; end = Err x }; counts = r.counts; log = take from log ++ (r.bytes ++ drop (from + n - from) (drop from log)) }) (now_is ∙ now)
+      ∙ ap (λ k. record { answer = record { done = d; end = Err x }; counts = ks; log = take from log ++ (take n (drop from log) ++ drop k (drop from log)) }) part_of
+      ∙ ap (λ l. record { answer = record { done = d; end = Err x }; counts = ks; log = l })
       (ap (λ l. take from log ++ l) (take-append-drop n (drop from log)) ∙ take-append-drop from log)
       ∙ sym (going_refused es ps m s t ks₀ log₀ ks log d from G more x (ap (λ r. r.answer) (sym now_is) ∙ q))
 
-  turn_done : after.answer ≡ Done → Going es ps m s t ks₀ log₀ after.counts log_after (suc d) (from + n)
+  turn_done : after.answer ≡ Ok tt → Going es ps m s t ks₀ log₀ after.counts log_after (suc d) (from + n)
   turn_done q =
       let q' = ap (λ r. r.answer) (sym now_is) ∙ q in
       going_next es ps m s t ks₀ log₀ ks log d from G more q'
@@ -74,11 +74,11 @@ module _ (es ps : List ℕ) (m : ℕ) (es' ps' : List ℕ) (units : ℕ) (L : La
 
   -- The same of the lists as a turn of the code leaves them.
   module _ (cs l : List ℕ) (counts-are : cs ≡ after.counts) (log_is : l ≡ log_after) where
-    pub turned_refused : (x : Refusal) → after.answer ≡ Refused x → record { answer = record { done = d; end = Refused x }; counts = cs; log = l } ≡ slots_from s es ps m t ks₀ log₀
+    pub turned_refused : (x : Refusal) → after.answer ≡ Err x → record { answer = record { done = d; end = Err x }; counts = cs; log = l } ≡ slots_from s es ps m t ks₀ log₀
     turned_refused x q =
-        ap (λ cs. record { answer = record { done = d; end = Refused x }; counts = cs; log = l }) counts-are
-        ∙ ap (λ l. record { answer = record { done = d; end = Refused x }; counts = after.counts; log = l }) log_is
+        ap (λ cs. record { answer = record { done = d; end = Err x }; counts = cs; log = l }) counts-are
+        ∙ ap (λ l. record { answer = record { done = d; end = Err x }; counts = after.counts; log = l }) log_is
         ∙ turn_refused x q
 
-    pub turned_done : after.answer ≡ Done → Going es ps m s t ks₀ log₀ cs l (d + 1) (from + n)
+    pub turned_done : after.answer ≡ Ok tt → Going es ps m s t ks₀ log₀ cs l (d + 1) (from + n)
     turned_done q = rw (add-one d, counts-are, log_is) (turn_done q)

@@ -1,5 +1,6 @@
 -- The turns of a run: after d done slots the run is d slots with their part of the log, and then the run of the rest. A done slot moves
 -- one more over, and a refusal or the end leaves what is there. Assumes nothing.
+use Rattle.std.specs.Prelude.{Err, Ok, Result}
 use mathlib.Core.Path.{◌≡◌, sym, ap, ◌∙◌}
 use mathlib.Core.List.{List, [], ◌++◌, append_assoc}
 use Prim.Native.Nat.{ℕ, suc, ◌+◌, ◌-◌, ◌*◌, ◌≤◌, ◌<◌, max}
@@ -7,8 +8,6 @@ use native.Mathlib.Nat.{zero-add, add-zero, add-suc, sub-zero, mul-le-mul_right}
 use native.Mathlib.Omega.{arith}
 use lib.ListN.{length, take, drop, take-append-drop, length-append, length-take, length-drop}
 use lib.Seq.{take_at, drop_at}
-use Rattle.rule.specs.declared.Outcome.{Outcome}
-use Rattle.rule.specs.declared.Outcome.TheVariants.{Done, Refused}
 use Rattle.rule.specs.declared.Refusal.{Refusal}
 use Rattle.rule.specs.Limits.{time_most}
 use Rattle.rule.specs.Outcomes.{SlotAfter, slot, RunAfter, stopped, one_more, after_slot, slots_from}
@@ -23,7 +22,7 @@ resume d front r =
     }
 
 -- What stops here with the log in two pieces has the whole log.
-whole_log : (d from : ℕ) (ks log : List ℕ) (o : Outcome) → resume d (take from log) (stopped o ks (drop from log)) ≡ record { answer = record { done = d; end = o }; counts = ks; log = log }
+whole_log : (d from : ℕ) (ks log : List ℕ) (o : Result Unit Refusal) → resume d (take from log) (stopped o ks (drop from log)) ≡ record { answer = record { done = d; end = o }; counts = ks; log = log }
 unfolding resume
 whole_log d from ks log o =
     ap (λ n. record { answer = record { done = n; end = o }; counts = ks; log = take from log ++ drop from log }) (add-zero d)
@@ -86,13 +85,13 @@ module _ (es ps : List ℕ) (m : ℕ) where
         G.runs ∙ ap (λ x. resume d (take from log) (slots_from x es ps m (t + d) ks (drop from log))) one
 
     -- A refused slot ends the run: nothing is changed any more.
-    pub going_refused : (x : Refusal) → now.answer ≡ Refused x
-        → slots_from s es ps m t ks₀ log₀ ≡ record { answer = record { done = d; end = Refused x }; counts = ks; log = log }
+    pub going_refused : (x : Refusal) → now.answer ≡ Err x
+        → slots_from s es ps m t ks₀ log₀ ≡ record { answer = record { done = d; end = Err x }; counts = ks; log = log }
     unfolding after_slot
-    going_refused x q = unrolled ∙ rw q (whole_log d from ks log (Refused x))
+    going_refused x q = unrolled ∙ rw q (whole_log d from ks log (Err x))
 
     -- A done slot moves over to the front.
-    pub going_next : now.answer ≡ Done → t + d ≤ time_most → (ks' log' : List ℕ) → ks' ≡ now.counts
+    pub going_next : now.answer ≡ Ok tt → t + d ≤ time_most → (ks' log' : List ℕ) → ks' ≡ now.counts
         → log' ≡ take from log ++ (now.bytes ++ drop (length es) (drop from log)) → length now.bytes ≡ length es → length ks' ≡ length es
         → Going s t ks₀ log₀ ks' log' (suc d) (from + length es)
     unfolding after_slot
@@ -139,8 +138,8 @@ module _ (es ps : List ℕ) (m : ℕ) where
 
   -- At the end all slots are done.
   pub going_end : (s t : ℕ) (ks₀ log₀ ks log : List ℕ) (d from : ℕ) → Going s t ks₀ log₀ ks log d from → s ≤ d
-      → slots_from s es ps m t ks₀ log₀ ≡ record { answer = record { done = d; end = Done }; counts = ks; log = log }
+      → slots_from s es ps m t ks₀ log₀ ≡ record { answer = record { done = d; end = Ok tt }; counts = ks; log = log }
   unfolding slots_from
   going_end s t ks₀ log₀ ks log d from G h =
       let none : s - d ≡ 0 = omega (arith, G.few) in
-      G.runs ∙ ap (λ x. resume d (take from log) (slots_from x es ps m (t + d) ks (drop from log))) none ∙ whole_log d from ks log Done
+      G.runs ∙ ap (λ x. resume d (take from log) (slots_from x es ps m (t + d) ks (drop from log))) none ∙ whole_log d from ks log (Ok tt)

@@ -10,7 +10,7 @@ ghost use Rattle.rule.specs.Refusals.{passed, first, set_checks};
 ghost use Rattle.slot.specs.Deal.{dealt};
 ghost use Rattle.field.proofs.OfSet.{laid_requirements, laid_periods};
 
-use rule::{Accepted, Admission, Outcome, Ran, Refusal};
+use rule::{Accepted, Ran, Refusal};
 
 // Is the length of a log that of so many slots of n bytes? By quotient and remainder, since the product may be too large.
 fn is_log(length: usize, slots: u32, n: usize) -> bool
@@ -36,7 +36,7 @@ fn deal_part(
     from: usize,
     to: usize,
     t: u32,
-) -> Outcome
+) -> Result<(), Refusal>
     requires { (from ≤ to) × (to ≤ length log.old) }
     ensures answer { result ≡ (dealt units requirements.now periods.now counts.old (take (to - from) (drop from log.old)) t).answer }
     ensures counts { counts.new ≡ (dealt units requirements.now periods.now counts.old (take (to - from) (drop from log.old)) t).counts }
@@ -72,10 +72,10 @@ fn run_laid(
     while done < slots {
         let to = from + n;
         let outcome = deal_part(units, es, ps, counts, log, from, to, t + done);
-        if let Outcome::Refused(refusal) = outcome {
+        if let Err(refusal) = outcome {
             return Ran {
                 done: done,
-                end: Outcome::Refused(refusal),
+                end: Err(refusal),
             };
         }
         from = to;
@@ -83,7 +83,7 @@ fn run_laid(
     }
     Ran {
         done: slots,
-        end: Outcome::Done,
+        end: Ok(()),
     }
 }
 
@@ -98,7 +98,7 @@ fn run_accepted(
     m: u32,
     t: u32,
 ) -> Ran
-    requires admitted { admission requirements.now periods.now m ≡ Admission.Accepted accepted }
+    requires admitted { admission requirements.now periods.now m ≡ Ok accepted }
     requires lists_fit { (length counts.old ≡ length requirements.now) × (length log.old ≡ slots * length requirements.now) × (slots ≤ slots_most) }
     ensures answer { result ≡ (slots_from slots requirements.now periods.now m t counts.old log.old).answer }
     ensures counts { counts.new ≡ (slots_from slots requirements.now periods.now m t counts.old log.old).counts }
@@ -125,11 +125,11 @@ fn run_accepted(
 
 // A run that was stopped before its first slot.
 fn stopped(refusal: Refusal) -> Ran
-    ensures { result ≡ record { done = 0; end = Outcome.Refused refusal } }
+    ensures { result ≡ record { done = 0; end = Err refusal } }
 {
     Ran {
         done: 0,
-        end: Outcome::Refused(refusal),
+        end: Err(refusal),
     }
 }
 
@@ -164,12 +164,12 @@ pub fn run(
     if slots == 0 {
         return Ran {
             done: 0,
-            end: Outcome::Done,
+            end: Ok(()),
         };
     }
     match admission::admit(requirements, periods, m) {
-        Admission::Refused(refusal) => stopped(refusal),
-        Admission::Accepted(accepted) => run_accepted(
+        Err(refusal) => stopped(refusal),
+        Ok(accepted) => run_accepted(
             requirements,
             periods,
             counts,

@@ -1,5 +1,6 @@
 -- A slot of a set, by what admission answers: another length or a refusal of admission is the slot's own, and of an accepted set the
 -- laid-out field is dealt. Assumes nothing.
+use Rattle.std.specs.Prelude.{Err, Ok}
 use mathlib.Core.Path.{◌≡◌}
 use mathlib.Core.Bool.{true}
 use mathlib.Core.List.{List, [], ◌∷◌, ◌++◌}
@@ -7,8 +8,6 @@ use Prim.Native.Nat.{ℕ, ◌≤◌}
 use borrow.Author.Tests.{eq-eqb}
 use lib.ListN.{length, take}
 use Rattle.rule.specs.declared.Accepted.{Accepted}
-use Rattle.rule.specs.declared.Admission.TheVariants.{Accepted as accepted, Refused as not_admitted}
-use Rattle.rule.specs.declared.Outcome.TheVariants.{Refused}
 use Rattle.rule.specs.declared.Refusal.{Refusal}
 use Rattle.rule.specs.declared.Refusal.TheVariants.{Lengths}
 use Rattle.rule.specs.Refusals.{passed, first, differ, times, lags, classes, set_checks, admission_checks, slot_checks}
@@ -24,7 +23,7 @@ use Rattle.slot.proofs.OfSet.{dealt_is_slot}
 
 module _ (es ps ks bytes : List ℕ) (m t : ℕ) where
   abbrev unchanged : Refusal → SlotAfter
-  unchanged r = record { answer = Refused r; counts = ks; bytes = bytes }
+  unchanged r = record { answer = Err r; counts = ks; bytes = bytes }
 
   -- ---- refusal 1
 
@@ -39,14 +38,14 @@ module _ (es ps ks bytes : List ℕ) (m t : ℕ) where
     unfolding slot_checks admission_checks differ
     checks_are = rw (eq-eqb (length ks) (length es) same, eq-eqb (length bytes) (length es) wide)
 
-    pub slot_refused : (r : Refusal) → admission es ps m ≡ not_admitted r → unchanged r ≡ slot es ps ks bytes m t
+    pub slot_refused : (r : Refusal) → admission es ps m ≡ Err r → unchanged r ≡ slot es ps ks bytes m t
     unfolding slot slot_by or_next
     slot_refused r q =
         rw (checks_are, first_or (admission_checks es ps m) (times t ∷ lags es ps ks t ∷ classes es ps ks t ∷ []), given_first ((admission_refusal es ps m r).0 q))
 
     -- ---- an accepted set
 
-    module _ (a : Accepted) (q : admission es ps m ≡ accepted a) (laid : Laid) (out : laid ≡ lay_out es ps a.spare) where
+    module _ (a : Accepted) (q : admission es ps m ≡ Ok a) (laid : Laid) (out : laid ≡ lay_out es ps a.spare) where
       tells : (length ps ≡ length es) × (first (set_checks es ps m) ≡ passed) × (a ≡ acceptance es ps)
       tells = accepted_tells es ps m a q
 

@@ -1,5 +1,6 @@
 -- What a judge's answer makes of a slot: a refusal is the slot's own, and where there is none the rungs are the field's, every count is
 -- small, and what is dealt by the rungs is what the definition deals. Assumes nothing.
+use Rattle.std.specs.Prelude.{Err, Ok}
 use mathlib.Core.Path.{◌≡◌, refl, sym, ap, ◌∙◌, subst}
 use mathlib.Core.Bool.{Bool, true, false, cond, ◌||◌}
 use mathlib.Core.List.{List, [], ◌∷◌}
@@ -9,7 +10,6 @@ use native.Mathlib.Omega.{arith}
 use borrow.Author.Tests.{eq-eqb, ne_eqb, ltb-false, leb-false, not-false, lt-ltb}
 use lib.Dec.{ltb}
 use lib.ListN.{length}
-use Rattle.rule.specs.declared.Outcome.TheVariants.{Done, Refused}
 use Rattle.rule.specs.declared.Refusal.{Refusal}
 use Rattle.rule.specs.declared.Refusal.TheVariants.{Lengths, Stuck}
 use Rattle.rule.specs.Limits.{multiple_most, time_most, tasks_most, within}
@@ -45,7 +45,7 @@ module _ (units : ℕ) (es ps ks bytes : List ℕ) (t : ℕ) where
   -- ---- the refusals
 
   -- Bytes that are not as many as the counts.
-  pub dealt_lengths : (length bytes ≡ length ks → ⊥) → dealt units es ps ks bytes t ≡ record { answer = Refused Lengths; counts = ks; bytes = bytes }
+  pub dealt_lengths : (length bytes ≡ length ks → ⊥) → dealt units es ps ks bytes t ≡ record { answer = Err Lengths; counts = ks; bytes = bytes }
   unfolding dealt dealt_by deal_checks first
   dealt_lengths h = rw (ne_eqb (length bytes) (length ks) h)
 
@@ -55,11 +55,11 @@ module _ (units : ℕ) (es ps ks bytes : List ℕ) (t : ℕ) where
     unfolding deal_checks first
     deal_verdict = rw (eq-eqb (length bytes) (length ks) wide) (first_or (laid_checks units es ps ks t) (check (stuck units (laid_field units es ps ks t) t) Stuck ∷ []))
 
-    pub dealt_refused : (r : Refusal) → (judged units es ps ks t).outcome ≡ Refused r → dealt units es ps ks bytes t ≡ record { answer = Refused r; counts = ks; bytes = bytes }
+    pub dealt_refused : (r : Refusal) → (judged units es ps ks t).outcome ≡ Err r → dealt units es ps ks bytes t ≡ record { answer = Err r; counts = ks; bytes = bytes }
     unfolding dealt dealt_by or_next
     dealt_refused r q = rw (deal_verdict, judged_refused units es ps ks t r q)
 
-    module _ (q : (judged units es ps ks t).outcome ≡ Done) where
+    module _ (q : (judged units es ps ks t).outcome ≡ Ok tt) where
       passes : first (laid_checks units es ps ks t) ≡ passed
       passes = judged_passed units es ps ks t q
 
@@ -118,15 +118,15 @@ module _ (units : ℕ) (es ps ks bytes : List ℕ) (t : ℕ) where
           go : (b : Bool) → dealt_by (cond b (refused Stuck) passed) units es ps ks bytes t ≡ dealt_or_stuck b units es ps (rungs_of units es ps ks t) ks bytes t
           go true = refl
           go false =
-              ap (λ cs. record { answer = Done; counts = cs; bytes = dealt_bytes units es ps ks t })
+              ap (λ cs. record { answer = Ok tt; counts = cs; bytes = dealt_bytes units es ps ks t })
               (each_ext (length ks) _ (λ i. at ks i + bit (chosen_by units es ps (rungs_of units es ps ks t) t i)) (λ i l. ap (λ b. at ks i + bit b) (picks i l)))
-              ∙ ap (λ bs. record { answer = Done; counts = each (length ks) (λ i. at ks i + bit (chosen_by units es ps (rungs_of units es ps ks t) t i)); bytes = bs })
+              ∙ ap (λ bs. record { answer = Ok tt; counts = each (length ks) (λ i. at ks i + bit (chosen_by units es ps (rungs_of units es ps ks t) t i)); bytes = bs })
               (each_ext (length ks) _ (λ i. bit (chosen_by units es ps (rungs_of units es ps ks t) t i)) (λ i l. ap bit (picks i l)))
 
 -- ---- the same of a judge's answer at hand
 
-module _ (units : ℕ) (es ps ks bytes : List ℕ) (t : ℕ) (wide : length bytes ≡ length ks) (j : Judged) (is : j ≡ judged units es ps ks t) (q : j.outcome ≡ Done) where
-  done : (judged units es ps ks t).outcome ≡ Done
+module _ (units : ℕ) (es ps ks bytes : List ℕ) (t : ℕ) (wide : length bytes ≡ length ks) (j : Judged) (is : j ≡ judged units es ps ks t) (q : j.outcome ≡ Ok tt) where
+  done : (judged units es ps ks t).outcome ≡ Ok tt
   done = ap (λ r. r.outcome) (sym is) ∙ q
 
   rungs_are : j.rungs ≡ rungs_of units es ps ks t

@@ -1,12 +1,12 @@
 -- Dealing the laid-out field of an accepted set is the set's slot: the checks that are left are those of the time, the lags and the
 -- classes, and the choice depends on the field's entries alone, which are the set's. Assumes nothing.
+use Rattle.std.specs.Prelude.{Ok}
 use mathlib.Core.Path.{◌≡◌, refl, sym, ap, ◌∙◌}
 use mathlib.Core.List.{List, [], ◌∷◌}
 use Prim.Native.Nat.{ℕ, ◌+◌, ◌<◌}
 use borrow.Author.Tests.{eq-eqb}
 use lib.ListN.{length}
 use Rattle.rule.specs.declared.Refusal.TheVariants.{Stuck}
-use Rattle.rule.specs.declared.Outcome.TheVariants.{Done}
 use Rattle.rule.specs.Places.{at, bit, each}
 use Rattle.rule.specs.Sets.{units_in_use, Field, field}
 use Rattle.rule.specs.Slot.{chosen}
@@ -76,10 +76,10 @@ module _ (es ps : List ℕ) (m : ℕ) (A : AcceptedSet es ps m) (ks : List ℕ) 
 
         go : (v : Verdict) → dealt_by v M (laid_requirements es ps) (laid_periods es ps) ks bytes t ≡ slot_by v es ps ks bytes t
         go passed =
-            ap (λ n. record { answer = Done; counts = each n dealt_count; bytes = each n dealt_byte }) same
-            ∙ ap (λ cs. record { answer = Done; counts = cs; bytes = each (length es) dealt_byte })
+            ap (λ n. record { answer = Ok tt; counts = each n dealt_count; bytes = each n dealt_byte }) same
+            ∙ ap (λ cs. record { answer = Ok tt; counts = cs; bytes = each (length es) dealt_byte })
             (each_ext (length es) dealt_count (λ i. at ks i + bit (runs_at es ps ks t i)) (λ i l. ap (λ b. at ks i + bit b) (laid_chosen i l)))
-            ∙ ap (λ bs. record { answer = Done; counts = each (length es) (λ i. at ks i + bit (runs_at es ps ks t i)); bytes = bs })
+            ∙ ap (λ bs. record { answer = Ok tt; counts = each (length es) (λ i. at ks i + bit (runs_at es ps ks t i)); bytes = bs })
             (each_ext (length es) dealt_byte (λ i. bit (runs_at es ps ks t i)) (λ i l. ap bit (laid_chosen i l)))
         go (refused r) = refl
 

@@ -1,12 +1,12 @@
 -- The parts of what a slot leaves, and what is dealt by the rungs in each case: too many urgent, too few others, or a choice.
 -- Assumes nothing.
+use Rattle.std.specs.Prelude.{Err, Ok}
 use mathlib.Core.Path.{◌≡◌, ap}
 use mathlib.Core.List.{List}
 use Prim.Native.Nat.{ℕ, ◌+◌, ◌-◌, ◌≤◌, ◌<◌}
 use native.Mathlib.Omega.{arith}
 use borrow.Author.Tests.{lt-ltb, le-ltb}
 use lib.ListN.{length}
-use Rattle.rule.specs.declared.Outcome.TheVariants.{Done, Refused}
 use Rattle.rule.specs.declared.Refusal.TheVariants.{Stuck}
 use Rattle.rule.specs.Places.{at, bit, each}
 use Rattle.rule.specs.Outcomes.{SlotAfter}
@@ -17,11 +17,11 @@ pub parts : {a b : SlotAfter} → a ≡ b → (a.answer ≡ b.answer) × ((a.cou
 parts q = (ap (λ r. r.answer) q, (ap (λ r. r.counts) q, ap (λ r. r.bytes) q))
 
 module _ (units : ℕ) (es ps rungs ks bytes : List ℕ) (t u c : ℕ) (urgent : u ≡ rungs_within 4 4 (length es) rungs) (contending : c ≡ rungs_within 1 3 (length es) rungs) where
-  pub stuck_urgent : units < u → record { answer = Refused Stuck; counts = ks; bytes = bytes } ≡ dealt_rungs units es ps rungs ks bytes t
+  pub stuck_urgent : units < u → record { answer = Err Stuck; counts = ks; bytes = bytes } ≡ dealt_rungs units es ps rungs ks bytes t
   unfolding dealt_rungs dealt_or_stuck stuck_by
   stuck_urgent h = rw (lt-ltb units (rungs_within 4 4 (length es) rungs) (omega arith))
 
-  pub stuck_few : u ≤ units → u + c < units → record { answer = Refused Stuck; counts = ks; bytes = bytes } ≡ dealt_rungs units es ps rungs ks bytes t
+  pub stuck_few : u ≤ units → u + c < units → record { answer = Err Stuck; counts = ks; bytes = bytes } ≡ dealt_rungs units es ps rungs ks bytes t
   unfolding dealt_rungs dealt_or_stuck stuck_by
   stuck_few h g =
       rw (le-ltb units (rungs_within 4 4 (length es) rungs) (omega arith), lt-ltb (rungs_within 4 4 (length es) rungs + rungs_within 1 3 (length es) rungs) units (omega arith))
@@ -30,7 +30,7 @@ module _ (units : ℕ) (es ps rungs ks bytes : List ℕ) (t u c : ℕ) (urgent :
   pub not_stuck : u ≤ units → units ≤ u + c → (cs bs : List ℕ)
       → cs ≡ each (length ks) (λ i. at ks i + bit (chosen_by (rungs_within 4 4 (length es) rungs + (units - u)) es ps rungs t i))
       → bs ≡ each (length ks) (λ i. bit (chosen_by (rungs_within 4 4 (length es) rungs + (units - u)) es ps rungs t i))
-      → record { answer = Done; counts = cs; bytes = bs } ≡ dealt_rungs units es ps rungs ks bytes t
+      → record { answer = Ok tt; counts = cs; bytes = bs } ≡ dealt_rungs units es ps rungs ks bytes t
   unfolding dealt_rungs dealt_or_stuck stuck_by
   not_stuck h g cs bs p q =
       let m : rungs_within 4 4 (length es) rungs + (units - u) ≡ units = omega arith in

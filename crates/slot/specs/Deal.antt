@@ -1,6 +1,5 @@
 -- One slot of a field that is laid out in lists, M given.
-use Rattle.std.specs.Prelude.{Bool, not, ◌||◌, List, [], ◌∷◌, ◌++◌, ℕ, ◌+◌, ltb, eqb, length}
-use Rattle.rule.specs.declared.Outcome.TheVariants.{Done, Refused}
+use Rattle.std.specs.Prelude.{Bool, not, ◌||◌, List, [], ◌∷◌, ◌++◌, ℕ, ◌+◌, ltb, eqb, length, Err, Ok}
 use Rattle.rule.specs.declared.Refusal.TheVariants.{Lengths, Stuck}
 use Rattle.rule.specs.Places.{at, bit, each}
 use Rattle.rule.specs.Sets.{Field}
@@ -27,8 +26,8 @@ dealt_bytes units es ps ks t = each (length ks) (λ i. bit (chosen units t (laid
 
 unfoldable pub dealt_by : Verdict → (units : ℕ) → List ℕ → List ℕ → List ℕ → List ℕ → ℕ → SlotAfter
 dealt_by passed units es ps ks bytes t =
-    record { answer = Done; counts = dealt_counts units es ps ks t; bytes = dealt_bytes units es ps ks t }
-dealt_by (refused r) units es ps ks bytes t = record { answer = Refused r; counts = ks; bytes = bytes }
+    record { answer = Ok tt; counts = dealt_counts units es ps ks t; bytes = dealt_bytes units es ps ks t }
+dealt_by (refused r) units es ps ks bytes t = record { answer = Err r; counts = ks; bytes = bytes }
 
 unfoldable pub dealt : (units : ℕ) → List ℕ → List ℕ → List ℕ → List ℕ → ℕ → SlotAfter
 dealt units es ps ks bytes t = dealt_by (first (deal_checks units es ps ks bytes t)) units es ps ks bytes t

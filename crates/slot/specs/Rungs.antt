@@ -1,7 +1,6 @@
 -- The choice read off the rungs of the places: urgent ones, then contenders by their order.
-use Rattle.std.specs.Prelude.{◌≡◌, Bool, true, false, ◌&&◌, ◌||◌, List, ℕ, ◌+◌, ◌≤◌, ◌<◌, ltb, length}
+use Rattle.std.specs.Prelude.{◌≡◌, Bool, true, false, ◌&&◌, ◌||◌, List, ℕ, ◌+◌, ◌≤◌, ◌<◌, ltb, length, Err, Ok}
 use Rattle.rule.specs.Limits.{within, bounded_by, multiple_most, time_most}
-use Rattle.rule.specs.declared.Outcome.TheVariants.{Done, Refused}
 use Rattle.rule.specs.declared.Refusal.TheVariants.{Stuck}
 use Rattle.rule.specs.Places.{at, bit, count, each}
 use Rattle.rule.specs.Task.{compare}
@@ -51,10 +50,10 @@ unfoldable pub stuck_by : (units : ℕ) → ℕ → List ℕ → Bool
 stuck_by units n rungs = ltb units (rungs_within 4 4 n rungs) || ltb (rungs_within 4 4 n rungs + rungs_within 1 3 n rungs) units
 
 unfoldable pub dealt_or_stuck : Bool → (units : ℕ) → List ℕ → List ℕ → List ℕ → List ℕ → List ℕ → ℕ → SlotAfter
-dealt_or_stuck true units es ps rungs ks bytes t = record { answer = Refused Stuck; counts = ks; bytes = bytes }
+dealt_or_stuck true units es ps rungs ks bytes t = record { answer = Err Stuck; counts = ks; bytes = bytes }
 dealt_or_stuck false units es ps rungs ks bytes t =
     record {
-      answer = Done;
+      answer = Ok tt;
       counts = each (length ks) (λ i. at ks i + bit (chosen_by units es ps rungs t i));
       bytes = each (length ks) (λ i. bit (chosen_by units es ps rungs t i));
     }

@@ -10,7 +10,7 @@ ghost use Rattle.rule.specs.Outcomes.{admission, slot as slot_of};
 ghost use Rattle.slot.specs.Rungs.{Choosing, Cut, rungs_within, on_contending, goes_before, rank_to, chosen_by, dealt_rungs};
 ghost use Rattle.slot.specs.Deal.{dealt};
 
-use rule::{Accepted, Admission, Order, Outcome, Refusal};
+use rule::{Accepted, Order, Refusal};
 
 // The rung of an urgent task.
 const URGENT: u8 = 4;
@@ -251,7 +251,7 @@ fn deal_judged(
     counts: &mut [u32],
     bytes: &mut [u8],
     t: u32,
-) -> Outcome
+) -> Result<(), Refusal>
     requires choosing { Choosing requirements.now periods.now rungs.now t }
     requires lengths { (length counts.old ≤ length requirements.now) × (length bytes.old ≡ length counts.old) }
     requires countable { (i : ℕ) → i < length counts.old → at counts.old i < 4294967295 }
@@ -263,10 +263,10 @@ fn deal_judged(
     let urgent = count_rungs(rungs, size, URGENT, URGENT);
     let contending = count_rungs(rungs, size, 1, 3);
     if units < urgent {
-        return Outcome::Refused(Refusal::Stuck);
+        return Err(Refusal::Stuck);
     }
     if urgent + contending < units {
-        return Outcome::Refused(Refusal::Stuck);
+        return Err(Refusal::Stuck);
     }
     choose(
         requirements,
@@ -278,7 +278,7 @@ fn deal_judged(
         counts,
         bytes,
     );
-    Outcome::Done
+    Ok(())
 }
 
 // One slot of a field that is laid out, M given: the requirements and the periods have the spare's last, if there is one.
@@ -289,18 +289,18 @@ pub fn deal(
     counts: &mut [u32],
     bytes: &mut [u8],
     t: u32,
-) -> Outcome
+) -> Result<(), Refusal>
     ensures answer { result ≡ (dealt units requirements.now periods.now counts.old bytes.old t).answer }
     ensures counts { counts.new ≡ (dealt units requirements.now periods.now counts.old bytes.old t).counts }
     ensures bytes { bytes.new ≡ (dealt units requirements.now periods.now counts.old bytes.old t).bytes }
 {
     if bytes.len() != counts.len() {
-        return Outcome::Refused(Refusal::Lengths);
+        return Err(Refusal::Lengths);
     }
     let judged = standing::judge(units, requirements, periods, counts, t);
     let outcome = judged.outcome;
-    if let Outcome::Refused(refusal) = outcome {
-        return Outcome::Refused(refusal);
+    if let Err(refusal) = outcome {
+        return Err(refusal);
     }
     let rungs = judged.rungs;
     deal_judged(
@@ -323,8 +323,8 @@ fn deal_accepted(
     accepted: Accepted,
     m: u32,
     t: u32,
-) -> Outcome
-    requires admitted { admission requirements.now periods.now m ≡ Admission.Accepted accepted }
+) -> Result<(), Refusal>
+    requires admitted { admission requirements.now periods.now m ≡ Ok accepted }
     requires same_length { (length counts.old ≡ length requirements.now) × (length bytes.old ≡ length requirements.now) }
     ensures answer { result ≡ (slot_of requirements.now periods.now counts.old bytes.old m t).answer }
     ensures counts { counts.new ≡ (slot_of requirements.now periods.now counts.old bytes.old m t).counts }
@@ -346,28 +346,18 @@ pub fn slot(
     bytes: &mut [u8],
     m: u32,
     t: u32,
-) -> Outcome
+) -> Result<(), Refusal>
     ensures answer { result ≡ (slot_of requirements.now periods.now counts.old bytes.old m t).answer }
     ensures counts { counts.new ≡ (slot_of requirements.now periods.now counts.old bytes.old m t).counts }
     ensures bytes { bytes.new ≡ (slot_of requirements.now periods.now counts.old bytes.old m t).bytes }
 {
     let n = requirements.len();
     if counts.len() != n {
-        return Outcome::Refused(Refusal::Lengths);
+        return Err(Refusal::Lengths);
     }
     if bytes.len() != n {
-        return Outcome::Refused(Refusal::Lengths);
+        return Err(Refusal::Lengths);
     }
-    match admission::admit(requirements, periods, m) {
-        Admission::Refused(refusal) => Outcome::Refused(refusal),
-        Admission::Accepted(accepted) => deal_accepted(
-            requirements,
-            periods,
-            counts,
-            bytes,
-            accepted,
-            m,
-            t,
-        ),
-    }
+    let accepted = admission::admit(requirements, periods, m)?;
+    deal_accepted(requirements, periods, counts, bytes, accepted, m, t)
 }

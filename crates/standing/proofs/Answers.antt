@@ -1,4 +1,5 @@
 -- The answer of a judge, check by check: a refusal is given where its condition holds and the conditions before it do not.
+use Rattle.std.specs.Prelude.{Err, Ok}
 use mathlib.Core.Bool.{Bool, true, false, not, ◌||◌}
 use mathlib.Core.List.{List}
 use mathlib.Core.Logic.{◌⊎◌, inl, inr}
@@ -8,7 +9,6 @@ use native.Mathlib.Omega.{arith}
 use lib.Dec.{eqb}
 use lib.ListN.{length}
 use borrow.Author.Tests.{lt-ltb, le-ltb, le-leb, lt-leb, eqb-true, not-false}
-use Rattle.rule.specs.declared.Outcome.TheVariants.{Done, Refused}
 use Rattle.rule.specs.declared.Refusal.{Refusal}
 use Rattle.rule.specs.declared.Refusal.TheVariants.{Lengths, Tasks, Units, Record, Time, Lag}
 use Rattle.rule.specs.Limits.{tasks_most, units_most, multiple_most, time_most, within, bounded_by}
@@ -24,7 +24,7 @@ use Rattle.standing.specs.Sound.{Sound}
 
 -- A refusal, with no rung.
 abbrev pub refusing : Refusal → Judged
-refusing r = record { outcome = Refused r; rungs = each 65 (λ i. 0) }
+refusing r = record { outcome = Err r; rungs = each 65 (λ i. 0) }
 
 -- ---- single checks
 
@@ -102,7 +102,7 @@ module _ (units : ℕ) (es ps ks : List ℕ) (t : ℕ) where
                 (this (le-leb (laid_unfair_place units es ps ks t) (length ks) unfair)))))))
 
             pub all_judged : length ks < laid_unfair_place units es ps ks t
-                → record { outcome = Done; rungs = rungs_of units es ps ks t } ≡ judged units es ps ks t
+                → record { outcome = Ok tt; rungs = rungs_of units es ps ks t } ≡ judged units es ps ks t
             unfolding judged judged_by laid_checks
             all_judged fair =
                 sym

@@ -1,5 +1,6 @@
 -- An accepted set laid out: its field is the set's own, entry by entry, and of the laid-out checks only those of the time and of the
 -- lags are left, which are the set's. Assumes nothing.
+use Rattle.std.specs.Prelude.{None, Option, Some}
 use mathlib.Core.Path.{◌≡◌, refl, sym, ap, ◌∙◌, subst}
 use mathlib.Core.Bool.{Bool, true, false, cond, not, ◌||◌}
 use mathlib.Core.List.{List, [], ◌∷◌}
@@ -11,8 +12,7 @@ use borrow.Author.Tests.{lt-ltb, le-ltb, eq-eqb, ne_eqb, le-leb}
 use lib.Dec.{ltb, leb, eqb}
 use lib.IntN.{pos, ◌-ℤ◌}
 use lib.ListN.{length}
-use Rattle.rule.specs.declared.Spare.{Spare}
-use Rattle.rule.specs.declared.Spare.TheVariants.{Nobody, Task}
+use Rattle.rule.specs.declared.Weight.{Weight}
 use Rattle.rule.specs.declared.Refusal.TheVariants.{Lengths, Units, Record, Lag}
 use Rattle.rule.specs.Limits.{bounded_by, multiple_most, units_most, tasks_most}
 use Rattle.rule.specs.Places.{at, sum, lowest}
@@ -89,9 +89,9 @@ module _ (es ps : List ℕ) where
       laid_out =
           rw (length_laid, length_laid_periods, eq-eqb (size es ps) (size es ps) refl, same) (go (spare es ps))
         where
-          go : (s : Spare) → (eqb (places_of s (length es)) (length es) || eqb (places_of s (length es)) (suc (length es))) ≡ true
-          go Nobody = rw (eq-eqb (length es) (length es) refl)
-          go (Task e p) = rw (ne_eqb (suc (length es)) (length es) (λ q. omega arith), eq-eqb (suc (length es)) (suc (length es)) refl)
+          go : (s : Option Weight) → (eqb (places_of s (length es)) (length es) || eqb (places_of s (length es)) (suc (length es))) ≡ true
+          go None = rw (eq-eqb (length es) (length es) refl)
+          go (Some w) = rw (ne_eqb (suc (length es)) (length es) (λ q. omega arith), eq-eqb (suc (length es)) (suc (length es)) refl)
 
       pub bounded_place : (i : ℕ) → i < size es ps → bounded_by multiple_most (at (laid_requirements es ps) i) (at (laid_periods es ps) i) ≡ true
       bounded_place i l = rw (at_laid i l, at_laid_periods i l) (all i l)

@@ -1,5 +1,6 @@
 -- What a judge's answer tells: the first of the laid-out checks that holds, and where none does the rungs of the field, place by place.
 -- Assumes nothing.
+use Rattle.std.specs.Prelude.{Err, Ok, Result}
 use mathlib.Core.Path.{◌≡◌, refl, sym, ◌∙◌}
 use mathlib.Core.Bool.{cond}
 use mathlib.Core.List.{List}
@@ -8,8 +9,6 @@ use native.Mathlib.Omega.{arith}
 use borrow.Author.Tests.{lt-ltb}
 use lib.Dec.{ltb}
 use lib.ListN.{length}
-use Rattle.rule.specs.declared.Outcome.{Outcome}
-use Rattle.rule.specs.declared.Outcome.TheVariants.{Done, Refused}
 use Rattle.rule.specs.declared.Refusal.{Refusal}
 use Rattle.rule.specs.Places.{at}
 use Rattle.rule.specs.Refusals.{Verdict, passed, refused, first}
@@ -18,9 +17,9 @@ use Rattle.standing.specs.Laid.{laid_entry, laid_checks}
 use Rattle.standing.specs.Judged.{rung, rungs_of, judged_by, judged}
 
 module _ (units : ℕ) (es ps ks : List ℕ) (t : ℕ) where
-  outcome_of : Verdict → Outcome
-  outcome_of passed = Done
-  outcome_of (refused r) = Refused r
+  outcome_of : Verdict → Result Unit Refusal
+  outcome_of passed = Ok tt
+  outcome_of (refused r) = Err r
 
   judged_outcome : (judged units es ps ks t).outcome ≡ outcome_of (first (laid_checks units es ps ks t))
   unfolding judged judged_by outcome_of
@@ -30,23 +29,23 @@ module _ (units : ℕ) (es ps ks : List ℕ) (t : ℕ) where
       go passed = refl
       go (refused r) = refl
 
-  pub judged_refused : (r : Refusal) → (judged units es ps ks t).outcome ≡ Refused r → first (laid_checks units es ps ks t) ≡ refused r
+  pub judged_refused : (r : Refusal) → (judged units es ps ks t).outcome ≡ Err r → first (laid_checks units es ps ks t) ≡ refused r
   unfolding outcome_of
   judged_refused r q = go (first (laid_checks units es ps ks t)) (sym judged_outcome ∙ q)
     where
-      go : (v : Verdict) → outcome_of v ≡ Refused r → v ≡ refused r
+      go : (v : Verdict) → outcome_of v ≡ Err r → v ≡ refused r
       go passed q = absurd (let z : ◌≡◌ {A = ℕ} 0 1 = cc in omega arith)
       go (refused r') q = cc
 
-  pub judged_passed : (judged units es ps ks t).outcome ≡ Done → first (laid_checks units es ps ks t) ≡ passed
+  pub judged_passed : (judged units es ps ks t).outcome ≡ Ok tt → first (laid_checks units es ps ks t) ≡ passed
   unfolding outcome_of
   judged_passed q = go (first (laid_checks units es ps ks t)) (sym judged_outcome ∙ q)
     where
-      go : (v : Verdict) → outcome_of v ≡ Done → v ≡ passed
+      go : (v : Verdict) → outcome_of v ≡ Ok tt → v ≡ passed
       go passed q = refl
       go (refused r) q = absurd (let z : ◌≡◌ {A = ℕ} 0 1 = cc in omega arith)
 
-  pub judged_rungs : (judged units es ps ks t).outcome ≡ Done → (judged units es ps ks t).rungs ≡ rungs_of units es ps ks t
+  pub judged_rungs : (judged units es ps ks t).outcome ≡ Ok tt → (judged units es ps ks t).rungs ≡ rungs_of units es ps ks t
   unfolding judged judged_by
   judged_rungs q = rw (judged_passed q)
 

@@ -1,8 +1,7 @@
 -- The rung of a task at t: its standing and its class in one number, from the most ahead to the most behind.
-use Rattle.std.specs.Prelude.{cond, List, ℕ, ltb, length}
+use Rattle.std.specs.Prelude.{cond, List, ℕ, ltb, length, Err, Ok}
 use Rattle.rule.specs.declared.Standing.{Standing}
 use Rattle.rule.specs.declared.Standing.TheVariants.{Ahead, Punctual, Behind}
-use Rattle.rule.specs.declared.Outcome.TheVariants.{Done, Refused}
 use Rattle.rule.specs.Places.{each}
 use Rattle.rule.specs.Task.{Entry, standing}
 use Rattle.rule.specs.Slot.{tnegru, urgent}
@@ -25,8 +24,8 @@ rungs_of units es ps ks t = each 65 (λ i. cond (ltb i (length es)) (rung t (lai
 
 -- What a judge answers: done with the rungs, or the first refusal with no rung.
 unfoldable pub judged_by : Verdict → (units : ℕ) → List ℕ → List ℕ → List ℕ → ℕ → Judged
-judged_by passed units es ps ks t = record { outcome = Done; rungs = rungs_of units es ps ks t }
-judged_by (refused r) units es ps ks t = record { outcome = Refused r; rungs = each 65 (λ i. 0) }
+judged_by passed units es ps ks t = record { outcome = Ok tt; rungs = rungs_of units es ps ks t }
+judged_by (refused r) units es ps ks t = record { outcome = Err r; rungs = each 65 (λ i. 0) }
 
 unfoldable pub judged : (units : ℕ) → List ℕ → List ℕ → List ℕ → ℕ → Judged
 judged units es ps ks t = judged_by (first (laid_checks units es ps ks t)) units es ps ks t

@@ -3,7 +3,6 @@
 #![tactic(auto)]
 
 ghost use Rattle.std.specs.Prelude.{true, not, cond, ◌≡◌, ℕ, ◌*◌, ◌<◌, ◌≤◌, ◌^◌, ltb, length};
-ghost use Rattle.rule.specs.declared.Outcome.TheVariants.{Refused};
 ghost use Rattle.rule.specs.Limits.{tasks_most, units_most};
 ghost use Rattle.rule.specs.Places.{at, sum, lowest, each};
 ghost use Rattle.rule.specs.Sets.{task_at};
@@ -13,13 +12,13 @@ ghost use Rattle.standing.specs.Judged.{rung, rungs_of, judged};
 ghost use Rattle.standing.specs.Laid.{is_laid_out, laid_entry, laid_unfair, laid_unfair_place, wild_place};
 ghost use Rattle.standing.specs.Sound.{Small, Sound};
 
-use rule::{Outcome, Refusal};
+use rule::Refusal;
 
 // The answer of a judge. A rung is 0 for tnegru, 1 for ahead and not tnegru, 2 for punctual, 3 for behind and not urgent,
 // 4 for urgent.
 #[derive(Drop)]
 pub struct Judged {
-    pub outcome: Outcome,
+    pub outcome: Result<(), Refusal>,
     pub rungs: [u8; 65],
 }
 
@@ -51,17 +50,17 @@ pub fn judge(units: u32, requirements: &[u32], periods: &[u32], counts: &[u32], 
         });
     }
     Judged {
-        outcome: Outcome::Done,
+        outcome: Ok(()),
         rungs: rungs_of(units, requirements, periods, counts, t),
     }
 }
 
 // A refusal, with no rung.
 fn refuse(refusal: Refusal) -> Judged
-    ensures { result ≡ record { outcome = Refused refusal; rungs = each 65 (λ i. 0) } }
+    ensures { result ≡ record { outcome = Err refusal; rungs = each 65 (λ i. 0) } }
 {
     Judged {
-        outcome: Outcome::Refused(refusal),
+        outcome: Err(refusal),
         rungs: [0; 65],
     }
 }

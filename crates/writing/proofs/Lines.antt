@@ -1,4 +1,5 @@
 -- Lines of answers as they are written: part after part from a place on, each where the one before ends. Assumes nothing.
+use Rattle.std.specs.Prelude.{None, Option, Some}
 use mathlib.Core.Path.{◌≡◌, refl, ◌∙◌}
 use mathlib.Core.Bool.{Bool, true, false, cond}
 use mathlib.Core.List.{List, [], ◌∷◌, ◌++◌}
@@ -7,9 +8,8 @@ use native.Mathlib.Omega.{arith}
 use lib.Dec.{eqb}
 use lib.ListN.{length, take, drop, length-append}
 use lib.Seq.{sets, drop-cons, drop-drop}
+use Rattle.rule.specs.declared.Weight.{Weight}
 use Rattle.rule.specs.declared.Refusal.{Refusal}
-use Rattle.rule.specs.declared.Spare.{Spare}
-use Rattle.rule.specs.declared.Spare.TheVariants.{Nobody, Task}
 use Rattle.rule.specs.declared.Accepted.{Accepted}
 use Rattle.rule.specs.Answers.{number_of, carried_by}
 use Rattle.rule.specs.Places.{at, bit}
@@ -62,11 +62,11 @@ pub accepted_stored : (l : List ℕ) (a : Accepted)
 unfolding accepted_line line_of digits_of field spare_bytes
 accepted_stored l a = go a.spare
   where
-    go : (s : Spare)
+    go : (s : Option Weight)
         → let three = sets (sets (sets l 0 (digits_of (0x81 ∷ []))) 2 (digits_of (field 1 a.units))) 4 (digits_of (field 4 a.multiple)) in
         sets (sets three 12 (digits_of (spare_bytes s))) 28 (line_feed ∷ []) ≡ sets l 0 (line_of (0x81 ∷ field 1 a.units ++ field 4 a.multiple ++ spare_bytes s))
-    go Nobody = refl
-    go (Task e p) = refl
+    go None = refl
+    go (Some w) = refl
 
 -- ---- bytes one by one
 

@@ -1,4 +1,5 @@
 -- How long the lines of an answer are. Assumes nothing.
+use Rattle.std.specs.Prelude.{Err, None, Ok, Option, Result, Some}
 use mathlib.Core.Path.{◌≡◌, refl}
 use mathlib.Core.Bool.{Bool, true, false, cond}
 use mathlib.Core.List.{List, [], ◌∷◌, ◌++◌}
@@ -6,12 +7,9 @@ use Prim.Native.Nat.{ℕ, zero, suc, ◌+◌, ◌*◌, ◌≤◌}
 use native.Mathlib.Omega.{arith}
 use lib.Dec.{eqb}
 use lib.ListN.{length, take, drop, length-append}
+use Rattle.rule.specs.declared.Weight.{Weight}
 use Rattle.rule.specs.declared.Accepted.{Accepted}
-use Rattle.rule.specs.declared.Outcome.{Outcome}
-use Rattle.rule.specs.declared.Outcome.TheVariants.{Done, Refused}
 use Rattle.rule.specs.declared.Refusal.{Refusal}
-use Rattle.rule.specs.declared.Spare.{Spare}
-use Rattle.rule.specs.declared.Spare.TheVariants.{Nobody, Task}
 use Rattle.digits.specs.Digits.{digits_of}
 use Rattle.digits.specs.Fields.{field}
 use Rattle.digits.proofs.Digits.{length_digits}
@@ -35,9 +33,9 @@ pub length_accepted : (a : Accepted) → length (accepted_line a) ≡ 29
 unfolding accepted_line line_of digits_of field spare_bytes
 length_accepted a = go a.spare
   where
-    go : (s : Spare) → length (line_of (0x81 ∷ field 1 a.units ++ field 4 a.multiple ++ spare_bytes s)) ≡ 29
-    go Nobody = refl
-    go (Task e p) = refl
+    go : (s : Option Weight) → length (line_of (0x81 ∷ field 1 a.units ++ field 4 a.multiple ++ spare_bytes s)) ≡ 29
+    go None = refl
+    go (Some w) = refl
 
 -- ---- a run
 
@@ -75,7 +73,7 @@ slots_small (suc s) n t log few =
     let both = length-append (slot_line t (take n log)) (slot_lines s n (suc t) (drop n log)) in
     omega arith
 
-pub end_small : (end : Outcome) → length (end_line end) ≤ 7
+pub end_small : (end : Result Unit Refusal) → length (end_line end) ≤ 7
 unfolding end_line
-end_small Done = omega arith
-end_small (Refused r) = let seven = length_refusal r in omega arith
+end_small (Ok tt) = omega arith
+end_small (Err r) = let seven = length_refusal r in omega arith

@@ -1,4 +1,5 @@
 -- What the public functions write, by their guards: the lines where the input fits, and else nothing. Assumes nothing.
+use Rattle.std.specs.Prelude.{Result}
 use mathlib.Core.Path.{◌≡◌, refl, sym, ap, ◌∙◌}
 use mathlib.Core.Bool.{Bool, true, false, ◌&&◌}
 use mathlib.Core.List.{List, [], ◌++◌}
@@ -9,7 +10,7 @@ use borrow.Author.Tests.{le-leb, lt-leb, leb-true}
 use lib.Dec.{leb}
 use lib.ListN.{length, length-append}
 use lib.Seq.{sets}
-use Rattle.rule.specs.declared.Outcome.{Outcome}
+use Rattle.rule.specs.declared.Refusal.{Refusal}
 use Rattle.rule.specs.Limits.{tasks_most, slots_most}
 use Rattle.digits.proofs.Stores.{sets_append}
 use Rattle.writing.specs.AnswerLines.{listing_line, slot_lines, end_line, listing_text, run_fits_in, run_text}
@@ -41,7 +42,7 @@ within_room slots n t size q =
     let p = parts (leb slots slots_most) (leb n tasks_most) (leb (slots * n) size) (leb (t + slots) 4294967295) q in
     (leb-true slots slots_most p.0, leb-true n tasks_most p.1, leb-true (slots * n) size p.2, leb-true (t + slots) 4294967295 p.3)
 
-module _ (slots n t : ℕ) (log : List ℕ) (end : Outcome) where
+module _ (slots n t : ℕ) (log : List ℕ) (end : Result Unit Refusal) where
   lines_if : run_fits_in slots n t (length log) ≡ true → run_text slots n t log end ≡ slot_lines slots n t log ++ end_line end
   unfolding run_text
   lines_if q = rw q
@@ -64,7 +65,7 @@ then_text l xs ys before now place =
     now ∙ rw (before, place) (ap (λ i. sets (sets l 0 xs) i ys) (sym start) ∙ sets_append l 0 xs ys)
 
 -- The lines of the slots and then that of the end, as the calls that write them give it.
-pub run_stored : (slots n t : ℕ) (log : List ℕ) (end : Outcome) → run_fits_in slots n t (length log) ≡ true
+pub run_stored : (slots n t : ℕ) (log : List ℕ) (end : Result Unit Refusal) → run_fits_in slots n t (length log) ≡ true
     → (out : List ℕ) {out₁ out₂ : List ℕ} {place all : ℕ}
     → out₁ ≡ sets out 0 (slot_lines slots n t log) → place ≡ length (slot_lines slots n t log)
     → out₂ ≡ sets out₁ place (end_line end) → all ≡ place + length (end_line end)

@@ -1,11 +1,8 @@
 -- Document 01, "Frames": the lines of an answer, in the form of a frame, each ended by a line feed.
-use Rattle.std.specs.Prelude.{Bool, cond, ◌&&◌, List, [], ◌∷◌, ◌++◌, ℕ, zero, suc, ◌+◌, ◌*◌, eqb, leb, length, take, drop}
+use Rattle.std.specs.Prelude.{Bool, cond, ◌&&◌, List, [], ◌∷◌, ◌++◌, ℕ, zero, suc, ◌+◌, ◌*◌, eqb, leb, length, take, drop, Err, None, Ok, Option, Result, Some}
+use Rattle.rule.specs.declared.Weight.{Weight}
 use Rattle.rule.specs.declared.Refusal.{Refusal}
-use Rattle.rule.specs.declared.Spare.{Spare}
-use Rattle.rule.specs.declared.Spare.TheVariants.{Nobody, Task}
 use Rattle.rule.specs.declared.Accepted.{Accepted}
-use Rattle.rule.specs.declared.Outcome.{Outcome}
-use Rattle.rule.specs.declared.Outcome.TheVariants.{Done, Refused}
 use Rattle.rule.specs.Answers.{number_of, Carried, nothing, place, excess, carried_by}
 use Rattle.rule.specs.Limits.{tasks_most, slots_most}
 use Rattle.digits.specs.Digits.{digits_of}
@@ -32,9 +29,9 @@ unfoldable pub malformed_line : List ℕ
 malformed_line = line_of (0x8f ∷ 11 ∷ 0xff ∷ [])
 
 -- "Answer 81, M (1), L (4), spare e (4), spare p (4); spare 0 and 0 if none."
-unfoldable pub spare_bytes : Spare → List ℕ
-spare_bytes Nobody = field 4 0 ++ field 4 0
-spare_bytes (Task e p) = field 4 e ++ field 4 p
+unfoldable pub spare_bytes : Option Weight → List ℕ
+spare_bytes None = field 4 0 ++ field 4 0
+spare_bytes (Some w) = field 4 w.e ++ field 4 w.p
 
 unfoldable pub accepted_line : Accepted → List ℕ
 accepted_line a = line_of (0x81 ∷ field 1 a.units ++ field 4 a.multiple ++ spare_bytes a.spare)
@@ -58,9 +55,9 @@ slot_lines zero n t log = []
 slot_lines (suc s) n t log = slot_line t (take n log) ++ slot_lines s n (suc t) (drop n log)
 
 -- "After a refusal within the run its line follows."
-unfoldable pub end_line : Outcome → List ℕ
-end_line Done = []
-end_line (Refused r) = refusal_line r
+unfoldable pub end_line : Result Unit Refusal → List ℕ
+end_line (Ok tt) = []
+end_line (Err r) = refusal_line r
 
 -- ---- what is written, whatever is asked
 
@@ -73,5 +70,5 @@ unfoldable pub run_fits_in : (slots n t size : ℕ) → Bool
 run_fits_in slots n t size = leb slots slots_most && leb n tasks_most && leb (slots * n) size && leb (t + slots) 4294967295
 
 -- The lines of a run: its slots', and that of the refusal that stopped it, if one did. Of a run that does not fit nothing is written.
-unfoldable pub run_text : (slots n t : ℕ) → List ℕ → Outcome → List ℕ
+unfoldable pub run_text : (slots n t : ℕ) → List ℕ → Result Unit Refusal → List ℕ
 run_text slots n t log end = cond (run_fits_in slots n t (length log)) (slot_lines slots n t log ++ end_line end) []

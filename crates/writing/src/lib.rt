@@ -10,7 +10,7 @@ ghost use Rattle.digits.specs.Digits.{digits_of};
 ghost use Rattle.writing.specs.AnswerLines.{line_feed, place_byte, refusal_line, malformed_line, spare_bytes, accepted_line};
 ghost use Rattle.writing.specs.AnswerLines.{places_from, slot_line, slot_lines, end_line, listing_text, run_fits_in, run_text};
 
-use rule::{Accepted, Outcome, Refusal, Spare};
+use rule::{Accepted, Refusal, Weight};
 
 // What ends a line.
 const LINE_FEED: u8 = 0x0A;
@@ -79,16 +79,16 @@ pub fn put_malformed(out: &mut [u8]) -> usize
 }
 
 // Writes the spare's two fields from a place on: 0 and 0 if there is none.
-fn put_spare(out: &mut [u8], at: usize, spare: Spare)
+fn put_spare(out: &mut [u8], at: usize, spare: Option<Weight>)
     requires { at ≤ 4294967295 }
     ensures { out.new ≡ sets out.old at (digits_of (spare_bytes spare)) }
 {
     match spare {
-        Spare::Nobody => {
+        None => {
             digits::put_field(out, at, 4, 0);
             digits::put_field(out, at + 8, 4, 0);
         }
-        Spare::Task { e, p } => {
+        Some(Weight { e, p }) => {
             digits::put_field(out, at, 4, e);
             digits::put_field(out, at + 8, 4, p);
         }
@@ -226,14 +226,14 @@ fn put_slots(out: &mut [u8], slots: u32, n: usize, t: u32, log: &[u8]) -> usize
 }
 
 // The line of the refusal that stopped a run, if one did.
-fn put_end(out: &mut [u8], at: usize, end: Outcome) -> usize
+fn put_end(out: &mut [u8], at: usize, end: Result<(), Refusal>) -> usize
     requires { at ≤ 4294967295 }
     ensures out { out.new ≡ sets out.old at (end_line end) }
     ensures place { result ≡ at + length (end_line end) }
 {
     match end {
-        Outcome::Done => at,
-        Outcome::Refused(refusal) => put_refusal(out, at, refusal),
+        Ok(()) => at,
+        Err(refusal) => put_refusal(out, at, refusal),
     }
 }
 
@@ -257,7 +257,7 @@ fn run_fits(slots: u32, n: usize, t: u32, size: usize) -> bool
 
 // Writes the lines of so many slots of n tasks from time t on, and then that of the refusal that stopped the run, if one did; answers
 // their length. Where the run does not fit nothing is written.
-pub fn put_run(out: &mut [u8], slots: u32, n: usize, t: u32, log: &[u8], end: Outcome) -> usize
+pub fn put_run(out: &mut [u8], slots: u32, n: usize, t: u32, log: &[u8], end: Result<(), Refusal>) -> usize
     ensures out { out.new ≡ sets out.old 0 (run_text slots n t log.now end) }
     ensures place { result ≡ length (run_text slots n t log.now end) }
 {

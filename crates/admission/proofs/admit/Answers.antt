@@ -1,11 +1,11 @@
 -- Each test is one check of the list, in its order; on each way out the checks passed so far do not hold.
+use Rattle.std.specs.Prelude.{Err}
 use mathlib.Core.Path.{◌≡◌, sym, ap, ◌∙◌}
 use mathlib.Core.Logic.{⊎_elim, inl, inr}
 use Prim.Native.Nat.{◌≤◌}
 use native.Mathlib.Omega.{arith}
 use borrow.Author.Tests.{lt-ltb, ltb-false}
 use lib.ListN.{length}
-use Rattle.rule.specs.declared.Admission.TheVariants.{Refused as not_admitted}
 use Rattle.rule.specs.declared.Refusal.TheVariants.{Record}
 use Rattle.rule.specs.Limits.{tasks_most, units_most}
 use Rattle.rule.specs.Refusals.{invalid_place, admission_checks, set_checks}
@@ -54,7 +54,7 @@ returns-then-place-n c =
     let ps = s.periods.now in
     let e = c.invalid_place-place.ensures in
     let low = rw e at c.if-place-n.true in
-    ap (λ place. not_admitted (Record place)) e
+    ap (λ place. Err (Record place)) e
     ∙ sym
     ((admission_refusal es ps s.m _).1
     (next (same_lengths (length es) (length ps) (omega arith))

@@ -3,10 +3,10 @@ use mathlib.Core.Path.{sym, ap}
 use Rattle.rule.specs.Layout.{period_of}
 use Rattle.doors.proofs.period_of.Goals as goal
 
-pub returns-in-Nobody : goal.returns-in-Nobody
+pub returns-in-None : goal.returns-in-None
 unfolding period_of
-returns-in-Nobody c = sym (ap (λ s. period_of s) c.in-Nobody.is)
+returns-in-None c = sym (ap (λ s. period_of s) c.in-None.is)
 
-pub returns-in-Task : goal.returns-in-Task
+pub returns-in-Some : goal.returns-in-Some
 unfolding period_of
-returns-in-Task c = sym (ap (λ s. period_of s) c.in-Task.is)
+returns-in-Some c = sym (ap (λ s. period_of s) c.in-Some.is)

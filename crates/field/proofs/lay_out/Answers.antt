@@ -2,9 +2,9 @@
 use Rattle.field.proofs.Laws.{laid_nobody, laid_task}
 use Rattle.field.proofs.lay_out.Goals as goal
 
-pub returns-in-Nobody : goal.returns-in-Nobody
-returns-in-Nobody c = laid_nobody _ _ _ _ _ c.in-Nobody.is c.filled.ensures c.filled-in-Nobody.ensures
+pub returns-in-None : goal.returns-in-None
+returns-in-None c = laid_nobody _ _ _ _ _ c.in-None.is c.filled.ensures c.filled-in-None.ensures
 
-pub returns-in-Task : goal.returns-in-Task
-returns-in-Task c =
-    laid_task _ _ _ _ _ _ _ c.in-Task.is c.filled-in-Task.ensures c.filled-in-Task-2.ensures
+pub returns-in-Some : goal.returns-in-Some
+returns-in-Some c =
+    laid_task _ _ _ _ _ _ _ c.in-Some.is c.filled-in-Some.ensures c.filled-in-Some-2.ensures

@@ -4,6 +4,7 @@ use mathlib.Core.List.{[], ◌∷◌}
 use lib.ListN.{length}
 use Rattle.rule.proofs.Refusals.{differ_here, differ_later}
 use Rattle.listing.proofs.Accepted.{parts, listing_lengths, listing_refused}
+use Rattle.std.proofs.Common.{rules}
 use Rattle.listing.proofs.list.Goals as goal
 
 pub returns-then-counts-n : goal.returns-then-counts-n
@@ -31,17 +32,17 @@ returns-then-bytes-n c =
 
 pub list_accepted-requires : goal.list_accepted-requires
 list_accepted-requires c = record {
-  admitted = sym c.admit.ensures ∙ c.in-Accepted.is;
+  admitted = sym c.admit.ensures ∙ c.in_ok-accepted.was;
   same_length = (c.if-counts-n.false, c.if-bytes-n.false);
 }
 
-pub returns-in-Refused : goal.returns-in-Refused
-returns-in-Refused c =
+pub returns-in_err-accepted : goal.returns-in_err-accepted
+returns-in_err-accepted c =
     let a = c.args in
     let r = parts
     (listing_refused a.requirements.now a.periods.now a.counts.now a.bytes.now a.m a.t c.if-counts-n.false c.if-bytes-n.false _
-    (sym c.admit.ensures ∙ c.in-Refused.is)) in
+    (sym c.admit.ensures ∙ c.in_err-accepted.was)) in
     record {
-      answer = r.0;
+      answer = search (rules, r.0);
       bytes = r.1;
     }

@@ -33,12 +33,12 @@ slice_bounds-judge-end-2 c =
     a.accepted c.requires.admitted c.lay_out-laid.result c.lay_out-laid.ensures in
     sym (length-take-le _ _ enough.1)
 
-pub returns-in-Refused : goal.returns-in-Refused
-returns-in-Refused c =
+pub returns-in-Err : goal.returns-in-Err
+returns-in-Err c =
     let a = c.args in
     let r = parts
     (listing_not_judged a.requirements.now a.periods.now a.counts.now a.bytes.now a.m a.t c.requires.same_length.0 c.requires.same_length.1
-    a.accepted c.requires.admitted c.lay_out-laid.result c.lay_out-laid.ensures c.judge-judged.result c.judge-judged.ensures _ c.in-Refused.is) in
+    a.accepted c.requires.admitted c.lay_out-laid.result c.lay_out-laid.ensures c.judge-judged.result c.judge-judged.ensures _ c.in-Err.is) in
     record {
       answer = r.0;
       bytes = r.1;

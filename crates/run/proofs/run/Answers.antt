@@ -86,27 +86,27 @@ pub run_accepted-requires : goal.run_accepted-requires
 run_accepted-requires c =
     let a = c.args in
     record {
-      admitted = sym c.admit.ensures ∙ c.in-Accepted.is;
+      admitted = sym c.admit.ensures ∙ c.in-Ok.is;
       lists_fit = (c.if-counts-n.false, eqb-true (length a.log.now) (a.slots * length a.requirements.now) (sym c.is_log.ensures ∙ c.if-not-is_log.false), c.if-slots-gt-SLOTS_MOST.false);
     }
 
-pub returns-in-Refused : goal.returns-in-Refused
-returns-in-Refused c =
+pub returns-in-Err : goal.returns-in-Err
+returns-in-Err c =
     let a = c.args in
     let p =
     parts
     (run_not_admitted a.slots a.requirements.now a.periods.now a.counts.now a.log.now a.m a.t c.if-slots-gt-SLOTS_MOST.false c.if-periods-n.false c.if-counts-n.false
     (eqb-true (length a.log.now) (a.slots * length a.requirements.now) (sym c.is_log.ensures ∙ c.if-not-is_log.false)) c.if-slots-eq0.false _
-    (sym c.admit.ensures ∙ c.in-Refused.is))
+    (sym c.admit.ensures ∙ c.in-Err.is))
     in
     record {
-      answer = c.stopped-in-Refused.ensures ∙ p.0;
+      answer = c.stopped-in-Err.ensures ∙ p.0;
       counts = p.1.0;
       log = p.1.1;
     }
 
-pub returns-in-Accepted : goal.returns-in-Accepted
-returns-in-Accepted c =
+pub returns-in-Ok : goal.returns-in-Ok
+returns-in-Ok c =
     let a = c.args in
     let p =
     parts

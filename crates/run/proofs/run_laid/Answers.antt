@@ -1,6 +1,6 @@
+use Rattle.std.specs.Prelude.{Ok}
 use mathlib.Core.Path.{◌≡◌, sym, ap, ◌∙◌}
 use native.Mathlib.Omega.{arith}
-use Rattle.rule.specs.declared.Outcome.TheVariants.{Done}
 use Rattle.run.proofs.Turns.{going_start, going_end, part_inside}
 use Rattle.run.proofs.Laid.{Laid, parts, turned_refused, turned_done}
 use Rattle.run.proofs.run_laid.Goals as goal
@@ -26,8 +26,8 @@ deal_part-outcome-requires c =
           c.loop-done.invariant c.loop-done-test.true,
     )
 
-pub returns-in-Refused : goal.returns-in-Refused
-returns-in-Refused c =
+pub returns-in-Err : goal.returns-in-Err
+returns-in-Err c =
     -- the set that is laid out, as the turns rely on it
     let a = c.args in
     let laid : Laid a.requirements.now a.periods.now a.m a.es.now a.ps.now a.units =
@@ -40,7 +40,7 @@ returns-in-Refused c =
     } in
     let r = parts
     (turned_refused a.requirements.now a.periods.now a.m a.es.now a.ps.now a.units laid a.slots a.t a.counts.now a.log.now c.loop-done.counts
-    c.loop-done.log c.loop-done.done c.loop-done.from c.loop-done.invariant c.loop-done-test.true _ _ c.deal_part-outcome.ensures.counts c.deal_part-outcome.ensures.log _ (sym c.deal_part-outcome.ensures.answer ∙ c.in-Refused.is)) in
+    c.loop-done.log c.loop-done.done c.loop-done.from c.loop-done.invariant c.loop-done-test.true _ _ c.deal_part-outcome.ensures.counts c.deal_part-outcome.ensures.log _ (sym c.deal_part-outcome.ensures.answer ∙ c.in-Err.is)) in
     record {
       answer = r.0;
       counts = r.1.0;
@@ -73,7 +73,7 @@ returns c =
     c.loop-done.invariant c.loop-done-test.false))
     in
     record {
-      answer = ap (λ d. record { done = d; end = Done }) all ∙ p.0;
+      answer = ap (λ d. record { done = d; end = Ok tt }) all ∙ p.0;
       counts = p.1.0;
       log = p.1.1;
     }

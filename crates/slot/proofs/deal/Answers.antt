@@ -15,13 +15,13 @@ returns-then-bytes-counts c =
       bytes = r.1.1;
     }
 
-pub returns-in-Refused : goal.returns-in-Refused
-returns-in-Refused c =
+pub returns-in-Err : goal.returns-in-Err
+returns-in-Err c =
     let a = c.args in
     let r = parts
     (sym
     (dealt_refused a.units a.requirements.now a.periods.now a.counts.now a.bytes.now a.t c.if-bytes-counts.false _
-    (ap (λ j. j.outcome) (sym c.judge-judged.ensures) ∙ c.in-Refused.is))) in
+    (ap (λ j. j.outcome) (sym c.judge-judged.ensures) ∙ c.in-Err.is))) in
     record {
       answer = r.0;
       counts = r.1.0;

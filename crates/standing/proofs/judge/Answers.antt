@@ -1,9 +1,9 @@
 -- Each test is one check of the list, in its order; on each way out the checks passed so far do not hold.
+use Rattle.std.specs.Prelude.{Ok}
 use mathlib.Core.Path.{sym, ap, ◌∙◌}
 use mathlib.Core.Logic.{⊎_elim, inl, inr}
 use native.Mathlib.Omega.{arith}
 use borrow.Author.Tests.{ltb-true, ltb-false}
-use Rattle.rule.specs.declared.Outcome.TheVariants.{Done}
 use Rattle.rule.specs.declared.Refusal.TheVariants.{Record, Lag}
 use Rattle.standing.proofs.Answers.{refusing, laid_lengths, lengths_refused, tasks_refused, units_refused, record_refused, time_refused, lag_refused, all_judged, sound_lists, all_fair}
 use Rattle.standing.proofs.judge.Goals as goal
@@ -132,5 +132,5 @@ returns c =
     let ks = c.args.counts.now in
     let t = c.args.t in
     let laid = sym c.laid_out.ensures ∙ c.if-not-laid_out.false in
-    ap (λ xs. record { outcome = Done; rungs = xs }) c.rungs_of.ensures
+    ap (λ xs. record { outcome = Ok tt; rungs = xs }) c.rungs_of.ensures
     ∙ all_judged m es ps ks t laid (omega arith) (omega (arith, ltb-false)) (omega arith) (omega arith) (omega arith) (omega arith)

@@ -3,19 +3,19 @@ use native.Mathlib.Nat.{add-zero}
 use Rattle.writing.specs.AnswerLines.{end_line}
 use Rattle.writing.proofs.put_end.Goals as goal
 
-pub returns-in-Done : goal.returns-in-Done
+pub returns-in-Ok : goal.returns-in-Ok
 unfolding end_line
-returns-in-Done c =
-    let told = c.in-Done.is in
+returns-in-Ok c =
+    let told = c.in-Ok.is in
     record {
       out = rw told;
       place = rw (told, add-zero);
     }
 
-pub returns-in-Refused : goal.returns-in-Refused
+pub returns-in-Err : goal.returns-in-Err
 unfolding end_line
-returns-in-Refused c =
-    let told = c.in-Refused.is in
+returns-in-Err c =
+    let told = c.in-Err.is in
     record {
       out = rw told c.put_refusal.ensures.out;
       place = rw told c.put_refusal.ensures.place;

@@ -4,14 +4,14 @@ use Rattle.writing.specs.AnswerLines.{spare_bytes}
 use Rattle.writing.proofs.Lines.{bytes_stored}
 use Rattle.writing.proofs.put_spare.Goals as goal
 
-pub returns-in-Nobody : goal.returns-in-Nobody
+pub returns-in-None : goal.returns-in-None
 unfolding spare_bytes field
-returns-in-Nobody c =
+returns-in-None c =
     let a = c.args in
-    rw (c.put_field-in-Nobody.ensures, c.put_field.ensures, c.in-Nobody.is) (bytes_stored a.out.now a.at (field 4 0) (field 4 0))
+    rw (c.put_field-in-None.ensures, c.put_field.ensures, c.in-None.is) (bytes_stored a.out.now a.at (field 4 0) (field 4 0))
 
-pub returns-in-Task : goal.returns-in-Task
+pub returns-in-Some : goal.returns-in-Some
 unfolding spare_bytes field
-returns-in-Task c =
+returns-in-Some c =
     let a = c.args in
-    rw (c.put_field-in-Task-2.ensures, c.put_field-in-Task.ensures, c.in-Task.is) (bytes_stored a.out.now a.at (field 4 _) (field 4 _))
+    rw (c.put_field-in-Some-2.ensures, c.put_field-in-Some.ensures, c.in-Some.is) (bytes_stored a.out.now a.at (field 4 _) (field 4 _))
