@@ -143,6 +143,7 @@ pub fn finish(reader: &mut Reader<'_>, out: &mut [u8]) -> usize
     ensures text { out.new ≡ sets out.old 0 (ended_by (is_roomy reader.old) (session_at reader.old) (line_at reader.old)).text }
     ensures size { result ≡ length (ended_by (is_roomy reader.old) (session_at reader.old) (line_at reader.old)).text }
     ensures small { result ≤ answer_most }
+    ensures roomy { is_roomy reader.new ≡ is_roomy reader.old }
 {
     if reader.held == 0 || !reader.is_roomy() {
         return 0;

@@ -1,5 +1,5 @@
 -- `finish` meets its contract: there is no line at hand, no room, or the line is answered. Assumes nothing.
-use mathlib.Core.Path.{◌≡◌, refl, ap, ◌∙◌}
+use mathlib.Core.Path.{◌≡◌, refl, sym, ap, ◌∙◌}
 use Prim.Native.Nat.{◌<◌}
 use mathlib.Core.List.{[]}
 use borrow.Author.Rules.{rules}
@@ -7,6 +7,7 @@ use lib.ListN.{length, take-append-drop}
 use lib.Seq.{sets}
 use Rattle.frames.specs.Replies.{Reply}
 use Rattle.stream.specs.Pieces.{session_at, line_at, is_roomy, IsRoomy, ended_by}
+use Rattle.frames.proofs.Room.{roomy, is_roomy as has_room_is}
 use Rattle.stream.proofs.Rooms.{roomy_is, not_roomy}
 use Rattle.stream.proofs.Steps.{answer_fits, ended_none, ended_no_room, ended_line}
 use Rattle.stream.proofs.finish.Goals.{then-reader-eq0-via-then-reader-eq0, then-reader-eq0-via-else-reader-eq0+then-not-is_roomy}
@@ -28,6 +29,7 @@ returns-then-reader-eq0 c =
       text = ap (λ x. sets c.args.out.now 0 x.text) none;
       size = ap (λ x. length x.text) none;
       small = search rules;
+      roomy = refl;
     }
 
 pub returns : goal.returns
@@ -44,4 +46,5 @@ returns c =
       text = a.ensures.text ∙ ap (λ x. sets c.args.out.now 0 x.text) said;
       size = a.ensures.size ∙ ap (λ x. length x.text) said;
       small = answer_fits r.kept (line_at r) room.0 a.result a.ensures.size;
+      roomy = roomy_is _ (roomy a.new.kept (a.ensures.room ∙ has_room_is r.kept room.0), (search rules, search rules)) ∙ sym (roomy_is r room);
     }
