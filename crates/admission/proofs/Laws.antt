@@ -1,6 +1,6 @@
 -- Admission step by step: where the lengths agree the checks of the set decide, a check of a limit holds just outside it, and what
 -- passes the first four checks is judged by the last two.
-use Rattle.std.specs.Prelude.{Err, Ok}
+use Rattle.std.specs.Prelude.{Err, Ok, Some, None, position, zip}
 use mathlib.Core.Bool.{Bool, true, false, not, ◌&&◌, ◌||◌}
 use mathlib.Core.List.{List, [], ◌∷◌}
 use mathlib.Core.Logic.{◌⊎◌, inl, inr}
@@ -10,17 +10,18 @@ use native.Mathlib.Omega.{arith}
 use borrow.Author.Tests.{eqb-true, eq-eqb, ne_eqb, le-leb, lt-leb, lt-ltb, le-ltb}
 use lib.Dec.{eqb, leb, ltb}
 use lib.ListN.{length}
-use Rattle.numbers.specs.declared.Multiple.{Multiple}
-use Rattle.numbers.specs.declared.Multiple.TheVariants.{At, Above}
 use Rattle.numbers.specs.Multiple.{lcm_all, within as limited}
-use Rattle.numbers.proofs.Limit.{at_tells, above_tells}
+use Rattle.std.specs.Prelude.{Option, Some, None}
+use Rattle.std.proofs.lemmas.Bool.Decides.{nat_tests}
 use Rattle.rule.specs.declared.Accepted.{Accepted}
 use Rattle.rule.specs.declared.Refusal.{Refusal}
 use Rattle.rule.specs.declared.Refusal.TheVariants.{Multiple as too_large, Load}
-use Rattle.rule.specs.Limits.{within, tasks_most, units_most, multiple_most}
+use Rattle.rule.specs.Limits.{within, bounded_by, tasks_most, units_most, period_most, multiple_most}
 use Rattle.rule.specs.Sets.{units_in_use, room, spare, multiple, load}
 use Rattle.rule.specs.Refusals.{Check, Verdict, passed, refused, first, differ, lengths, tasks, units, records, multiples, loads, invalid_place, set_checks, admission_checks}
 use Rattle.rule.specs.Outcomes.{acceptance, admission_by, admission}
+use Rattle.rule.proofs.Searches.{found_some, found_none, lowest_zip}
+use Rattle.rule.proofs.Sets.{invalid_place_le}
 use Rattle.rule.proofs.Refusals.{Given, this, next, NoneHolds, none, and, given_first, none_first, first_none, first_append}
 use Rattle.admission.specs.Parts.{spare_of, acceptance_of}
 
@@ -44,6 +45,20 @@ same_lengths n l e = simp (eq-eqb l n e)
 pub other_lengths : (n l : ℕ) → (l ≡ n → ⊥) → differ n (l ∷ []) ≡ true
 unfolding differ
 other_lengths n l e = simp (ne_eqb l n e)
+
+-- The first record that the search finds outside the limits is that of refusal 4, and where it finds none there is none.
+pub invalid_some : (es ps : List ℕ) → length ps ≡ length es → (i : ℕ)
+    → position (λ r. not (bounded_by period_most r.0 r.1)) (zip es ps) ≡ Some i → (invalid_place es ps < length es) × (i ≡ invalid_place es ps)
+unfolding invalid_place
+invalid_some es ps same i q =
+    found_some _ _ i (sym q ∙ lowest_zip es ps (λ e p. not (bounded_by period_most e p)) same)
+
+pub invalid_never : (es ps : List ℕ) → length ps ≡ length es
+    → position (λ r. not (bounded_by period_most r.0 r.1)) (zip es ps) ≡ None → invalid_place es ps ≡ length es
+unfolding invalid_place
+invalid_never es ps same q =
+    let all = found_none _ _ (sym q ∙ lowest_zip es ps (λ e p. not (bounded_by period_most e p)) same) in
+    omega (arith, all, invalid_place_le es ps)
 
 pub lengths_tell : (n l : ℕ) → differ n (l ∷ []) ≡ false → l ≡ n
 unfolding differ
@@ -71,14 +86,14 @@ module _ (es ps : List ℕ) where
 -- ---- refusals 5 and 6
 
 -- The answer of `least_multiple` under the limit of L tells L itself, or that refusal 5 is given.
-module _ (ps : List ℕ) (answer : Multiple) (is : answer ≡ limited multiple_most (lcm_all ps)) where
-  pub multiple_told : (l : ℕ) → answer ≡ At l → (l ≡ multiple ps) × (l ≤ multiple_most)
+module _ (ps : List ℕ) (answer : Option ℕ) (is : answer ≡ limited multiple_most (lcm_all ps)) where
+  pub multiple_told : (l : ℕ) → answer ≡ Some l → (l ≡ multiple ps) × (l ≤ multiple_most)
   unfolding multiple
-  multiple_told l told = at_tells multiple_most (multiple ps) l (sym is ∙ told)
+  multiple_told l told = grind (arith, nat_tests)
 
-  pub above_told : answer ≡ Above → multiple_most < multiple ps
+  pub none_told : answer ≡ None → multiple_most < multiple ps
   unfolding multiple
-  above_told told = above_tells multiple_most (multiple ps) (sym is ∙ told)
+  none_told told = grind (arith, nat_tests)
 
 module _ (es ps : List ℕ) (m : ℕ) where
   pub multiple_refused : multiple_most < multiple ps → Err too_large ≡ admission_by (first (multiples ps ∷ loads es ps m ∷ [])) es ps

@@ -4,12 +4,11 @@
 ghost use Rattle.std.specs.Prelude.{[], ◌∷◌, ◌≡◌, ◌*◌, ◌<◌, ◌≤◌, length};
 ghost use Rattle.rule.specs.Limits.{units_most, multiple_most};
 ghost use Rattle.rule.specs.Sets.{multiple as multiple_of, load as load_of};
-ghost use Rattle.rule.specs.Refusals.{invalid_place, first, multiples, loads};
+ghost use Rattle.rule.specs.Refusals.{first, multiples, loads};
 ghost use Rattle.rule.specs.Outcomes.{admission, admission_by};
 ghost use Rattle.rule.proofs.Sets.{ValidSet};
 ghost use Rattle.admission.specs.Parts.{acceptance_of, spare_of};
 
-use numbers::Multiple;
 use rule::{Accepted, Refusal, Weight};
 
 // M, L and the spare of a set on m units, or the first refusal of 1 to 6 that holds.
@@ -26,27 +25,12 @@ pub fn admit(requirements: &[u32], periods: &[u32], m: u32) -> Result<Accepted, 
     if m == 0 || m > rule::UNITS_MOST {
         return Err(Refusal::Units);
     }
-    let place = invalid_place(requirements, periods);
-    if place < n {
-        return Err(Refusal::Record { place: place as u32 });
+    if let Some(place) = rule::outside_place(requirements, periods, rule::PERIOD_MOST) {
+        return Err(Refusal::Record {
+            place: place as u32,
+        });
     }
     admit_valid(requirements, periods, m)
-}
-
-// The lowest place whose record is outside its limits; n where there is none.
-fn invalid_place(requirements: &[u32], periods: &[u32]) -> usize
-    requires { length periods.now ≡ length requirements.now }
-    ensures { result ≡ invalid_place requirements.now periods.now }
-{
-    let n = requirements.len();
-    let mut i = 0;
-    while i < n {
-        if !rule::within_limits(requirements[i], periods[i]) {
-            return i;
-        }
-        i += 1;
-    }
-    n
 }
 
 // Refusals 5 and 6, and the answer, for a set that passes 1 to 4.
@@ -55,9 +39,7 @@ fn admit_valid(requirements: &[u32], periods: &[u32], m: u32) -> Result<Accepted
     requires m_le_units_most { m ≤ units_most }
     ensures { result ≡ admission_by (first (multiples periods.now ∷ loads requirements.now periods.now m ∷ [])) requirements.now periods.now }
 {
-    let Multiple::At(multiple) = numbers::least_multiple(periods, rule::MULTIPLE_MOST) else {
-        return Err(Refusal::Multiple);
-    };
+    let multiple = numbers::least_multiple(periods, rule::MULTIPLE_MOST).ok_or(Refusal::Multiple)?;
     let load = load_of(requirements, periods, multiple);
     let given = m * multiple;
     if load > given {
@@ -75,14 +57,10 @@ fn load_of(requirements: &[u32], periods: &[u32], multiple: u32) -> u32
     requires multiple_le_multiple_most { multiple ≤ multiple_most }
     ensures { result ≡ load_of requirements.now periods.now }
 {
-    let n = requirements.len();
     let mut load: u32 = 0;
-    let mut i = 0;
-    while i < n {
+    for (i, &e) in requirements.iter().enumerate() {
         // As a u64, since e·L may be no u32.
-        let product = (requirements[i] as u64) * (multiple as u64);
-        load += (product / (periods[i] as u64)) as u32;
-        i += 1;
+        load += (e as u64 * multiple as u64 / periods[i] as u64) as u32;
     }
     load
 }
@@ -97,8 +75,8 @@ fn accept(load: u32, multiple: u32) -> Accepted
     let units = (load + (multiple - 1)) / multiple;
     let room = units * multiple - load;
     Accepted {
-        units: units,
-        multiple: multiple,
+        units,
+        multiple,
         spare: spare_of(room, multiple),
     }
 }

@@ -1,81 +1,88 @@
 // A case for each entry: a line for what is asked, and a line for the answer.
-use crate::show;
+ghost use Rattle.std.specs.Prelude.{◌*◌, ◌^◌, ◌<◌};
+
+use crate::show::{
+    self, Admitted, Answer, Choice, Compared, Dealt, Fraction, Marks, Numbers, Refused, Set,
+    Standing, Units,
+};
 
 // Admission of a set.
-pub fn admission(rt: &impl Print, requirements: &[u32], periods: &[u32], m: u32) {
-    show::set(rt, requirements, periods, m);
-    show::admitted(rt, admission::admit(requirements, periods, m));
+pub fn admission(rt: &impl Print, set: Set<'_>) {
+    show::line(rt, set);
+    admitted(rt, set);
 }
 
-// Admission of a set whose tasks are all alike.
-pub fn alike(rt: &impl Print, requirements: &[u32], periods: &[u32], m: u32) {
-    show::alike(rt, requirements, periods, m);
-    show::admitted(rt, admission::admit(requirements, periods, m));
-}
-
-// Comparison of two tasks at a time.
-pub fn comparison(rt: &impl Print, e: u32, p: u32, e2: u32, p2: u32, t: u32) {
-    show::fraction(rt, e, p);
-    show::text(rt, b" against ");
-    show::fraction(rt, e2, p2);
-    show::phrase(rt, b" at time ", t);
-    show::compared(rt, order::compare(e, p, e2, p2, t));
-}
-
-// One slot.
-pub fn slot(
-    rt: &impl Print,
-    requirements: &[u32],
-    periods: &[u32],
-    counts: &mut [u32],
-    bytes: &mut [u8],
-    m: u32,
-    t: u32,
-) {
-    show::set(rt, requirements, periods, m);
-    show::standing(rt, t, counts);
-    match slot::slot(requirements, periods, counts, bytes, m, t) {
-        Ok(()) => show::dealt(rt, bytes, counts, m),
-        Err(refusal) => show::refused(rt, refusal),
-    }
-}
-
-// A run from time t on.
-pub fn run(
-    rt: &impl Print,
-    slots: u32,
-    requirements: &[u32],
-    periods: &[u32],
-    counts: &mut [u32],
-    log: &mut [u8],
-    m: u32,
-    t: u32,
-) {
-    show::number(rt, slots);
-    show::text(rt, b" slots of ");
-    show::set(rt, requirements, periods, m);
-    show::standing(rt, t, counts);
-    show::ran(
+// Admission of a set of N tasks that are all alike.
+pub fn alike<const N: usize>(rt: &impl Print, task: Fraction, m: u32)
+    requires fits_in_memory { 4 * N < 2 ^ 63 }
+{
+    show::line(rt, format_args!("{N} tasks of {task} on {}", Units(m)));
+    admitted(
         rt,
-        run::run(slots, requirements, periods, counts, log, m, t),
-        counts,
+        Set {
+            requirements: &[task.e; N],
+            periods: &[task.p; N],
+            m,
+        },
     );
 }
 
-// A listing of standings.
-pub fn listing(
-    rt: &impl Print,
-    requirements: &[u32],
-    periods: &[u32],
-    counts: &[u32],
-    bytes: &mut [u8],
-    m: u32,
-    t: u32,
-) {
-    show::set(rt, requirements, periods, m);
-    show::standing(rt, t, counts);
-    match listing::list(requirements, periods, counts, bytes, m, t) {
-        Ok(()) => show::marks(rt, bytes),
-        Err(refusal) => show::refused(rt, refusal),
+fn admitted(rt: &impl Print, set: Set<'_>) {
+    let admission = admission::admit(set.requirements, set.periods, set.m);
+    show::reply(rt, Answer(admission.map(Admitted)));
+}
+
+// Comparison of two tasks at a time.
+pub fn comparison(rt: &impl Print, one: Fraction, other: Fraction, t: u32) {
+    show::line(rt, format_args!("{one} against {other} at time {t}"));
+    let comparison = order::compare(one.into(), other.into(), t);
+    show::reply(rt, Answer(comparison.map(Compared)));
+}
+
+// One slot.
+pub fn slot<const N: usize>(rt: &impl Print, set: Set<'_>, mut counts: [u32; N], t: u32) {
+    show::line(
+        rt,
+        Standing {
+            set,
+            t,
+            counts: &counts,
+        },
+    );
+    let Set {
+        requirements,
+        periods,
+        m,
+    } = set;
+    let mut bytes = [0; N];
+    let slot = slot::slot(requirements, periods, &mut counts, &mut bytes, m, t);
+    let dealt = Dealt {
+        choice: Choice { bytes: &bytes, m },
+        counts: &counts,
+    };
+    show::reply(rt, Answer(slot.map(|()| dealt)));
+}
+
+// A run from time t on.
+pub fn run(rt: &impl Print, slots: u32, set: Set<'_>, counts: &mut [u32], log: &mut [u8], t: u32) {
+    show::line(
+        rt,
+        format_args!("{slots} slots of {}", Standing { set, t, counts }),
+    );
+    let ran = run::run(slots, set.requirements, set.periods, counts, log, set.m, t);
+    show::reply(
+        rt,
+        format_args!("done: {} slots, counts now{}", ran.done, Numbers(counts)),
+    );
+    if let Err(refusal) = ran.end {
+        show::reply(rt, Refused(refusal));
     }
+}
+
+// A listing of standings.
+pub fn listing<const N: usize>(rt: &impl Print, set: Set<'_>, counts: &[u32; N], t: u32) {
+    show::line(rt, Standing { set, t, counts });
+    let mut bytes = [0; N];
+    let listing = listing::list(set.requirements, set.periods, counts, &mut bytes, set.m, t);
+    show::reply(rt, Answer(listing.map(|()| Marks(&bytes))));
 }

@@ -4,10 +4,21 @@
 mod ask;
 mod show;
 
-// The paper's set.
-const REQUIREMENTS: [u32; 4] = [1, 2, 5, 8];
+use show::{Choice, Fraction, Set};
 
-const PERIODS: [u32; 4] = [3, 4, 7, 11];
+// The paper's set.
+const PAPER: Set<'static> = Set {
+    requirements: &[1, 2, 5, 8],
+    periods: &[3, 4, 7, 11],
+    m: 3,
+};
+
+// Two tasks that take turns on one unit.
+const TURNS: Set<'static> = Set {
+    requirements: &[1, 1],
+    periods: &[2, 2],
+    m: 1,
+};
 
 fn main(rt: HostRuntime) {
     multiples(&rt);
@@ -22,126 +33,78 @@ fn main(rt: HostRuntime) {
 
 // L on both sides of its limit. The limit itself is no L, since a period is at most 65535.
 fn multiples(rt: &impl Print) {
-    show::text(rt, b"The limit of L\n");
-    ask::admission(rt, &[1, 1], &[65535, 16], 1);
-    ask::admission(rt, &[1, 1], &[65535, 32], 1);
-    ask::admission(rt, &[1, 1], &[31775, 33], 1);
-    ask::admission(rt, &[1, 1], &[17, 61681], 1);
+    show::line(rt, "The limit of L");
+    for periods in [[65535, 16], [65535, 32], [31775, 33], [17, 61681]] {
+        ask::admission(
+            rt,
+            Set {
+                requirements: &[1, 1],
+                periods: &periods,
+                m: 1,
+            },
+        );
+    }
 }
 
 // The most tasks and one more, the most units and one more.
 fn tasks_and_units(rt: &impl Print) {
-    show::text(rt, b"\nThe limits of tasks and units\n");
-    ask::alike(rt, &[1; 64], &[64; 64], 1);
-    ask::alike(rt, &[1; 65], &[65; 65], 1);
-    ask::alike(rt, &[1; 64], &[2; 64], 32);
-    ask::alike(rt, &[1; 64], &[2; 64], 33);
+    show::line(rt, "\nThe limits of tasks and units");
+    ask::alike::<64>(rt, Fraction { e: 1, p: 64 }, 1);
+    ask::alike::<65>(rt, Fraction { e: 1, p: 65 }, 1);
+    ask::alike::<64>(rt, Fraction { e: 1, p: 2 }, 32);
+    ask::alike::<64>(rt, Fraction { e: 1, p: 2 }, 33);
 }
 
 // The paper's set, on enough units and on one too few.
 fn loads(rt: &impl Print) {
-    show::text(rt, b"\nThe load\n");
-    ask::admission(rt, &REQUIREMENTS, &PERIODS, 3);
-    ask::admission(rt, &REQUIREMENTS, &PERIODS, 2);
+    show::line(rt, "\nThe load");
+    ask::admission(rt, PAPER);
+    ask::admission(rt, Set { m: 2, ..PAPER });
 }
 
 // Each of the three answers, then the last time and one later.
 fn comparisons(rt: &impl Print) {
-    show::text(rt, b"\nThe order of two tasks\n");
-    ask::comparison(rt, 2, 3, 1, 3, 0);
-    ask::comparison(rt, 1, 2, 1, 3, 1);
-    ask::comparison(rt, 1, 3, 1, 6, 3);
-    ask::comparison(rt, 1, 2, 1, 3, 16777215);
-    ask::comparison(rt, 1, 2, 1, 3, 16777216);
+    show::line(rt, "\nThe order of two tasks");
+    let half = Fraction { e: 1, p: 2 };
+    let third = Fraction { e: 1, p: 3 };
+    ask::comparison(rt, Fraction { e: 2, p: 3 }, third, 0);
+    ask::comparison(rt, half, third, 1);
+    ask::comparison(rt, third, Fraction { e: 1, p: 6 }, 3);
+    ask::comparison(rt, half, third, 16777215);
+    ask::comparison(rt, half, third, 16777216);
 }
 
 // One slot at the last time and one later, and a run that comes past it.
 fn last_slots(rt: &impl Print) {
-    show::text(rt, b"\nThe last time\n");
-    ask::slot(
-        rt,
-        &[1, 1],
-        &[2, 2],
-        &mut [8388608, 8388607],
-        &mut [0; 2],
-        1,
-        16777215,
-    );
-    ask::slot(
-        rt,
-        &[1, 1],
-        &[2, 2],
-        &mut [8388608; 2],
-        &mut [0; 2],
-        1,
-        16777216,
-    );
-    ask::run(
-        rt,
-        4,
-        &[1, 1],
-        &[2, 2],
-        &mut [8388607; 2],
-        &mut [0; 8],
-        1,
-        16777214,
-    );
+    show::line(rt, "\nThe last time");
+    ask::slot(rt, TURNS, [8388608, 8388607], 16777215);
+    ask::slot(rt, TURNS, [8388608; 2], 16777216);
+    ask::run(rt, 4, TURNS, &mut [8388607; 2], &mut [0; 8], 16777214);
 }
 
 // A listing at the last time and one later.
 fn last_listings(rt: &impl Print) {
-    show::text(rt, b"\nThe last listing\n");
-    ask::listing(
-        rt,
-        &[1, 1],
-        &[2, 2],
-        &[8388608, 8388607],
-        &mut [0; 2],
-        1,
-        16777215,
-    );
-    ask::listing(
-        rt,
-        &[1, 1],
-        &[2, 2],
-        &[8388608; 2],
-        &mut [0; 2],
-        1,
-        16777216,
-    );
+    show::line(rt, "\nThe last listing");
+    ask::listing(rt, TURNS, &[8388608, 8388607], 16777215);
+    ask::listing(rt, TURNS, &[8388608; 2], 16777216);
 }
 
 // The most slots of a run, and one more.
 fn longest_runs(rt: &impl Print) {
-    show::text(rt, b"\nThe longest run\n");
-    ask::run(
-        rt,
-        1024,
-        &REQUIREMENTS,
-        &PERIODS,
-        &mut [0; 4],
-        &mut [0; 4096],
-        3,
-        0,
-    );
-    ask::run(
-        rt,
-        1025,
-        &REQUIREMENTS,
-        &PERIODS,
-        &mut [0; 4],
-        &mut [0; 4100],
-        3,
-        0,
-    );
+    show::line(rt, "\nThe longest run");
+    ask::run(rt, 1024, PAPER, &mut [0; 4], &mut [0; 4096], 0);
+    ask::run(rt, 1025, PAPER, &mut [0; 4], &mut [0; 4100], 0);
 }
 
 // The paper's set slot by slot, and how its tasks then stand.
 fn paper(rt: &impl Print) {
-    show::text(rt, b"\nThe paper's set\n");
+    show::line(rt, "\nThe paper's set");
     let mut counts = [0; 4];
     let mut log = [0; 80];
-    ask::run(rt, 20, &REQUIREMENTS, &PERIODS, &mut counts, &mut log, 3, 0);
-    show::slots(rt, &log, 4, 3);
-    ask::listing(rt, &REQUIREMENTS, &PERIODS, &counts, &mut [0; 4], 3, 20);
+    ask::run(rt, 20, PAPER, &mut counts, &mut log, 0);
+    for (time, bytes) in log.chunks_exact(4).enumerate() {
+        let choice = Choice { bytes, m: PAPER.m };
+        show::line(rt, format_args!("    slot {time}: {choice}"));
+    }
+    ask::listing(rt, PAPER, &counts, 20);
 }

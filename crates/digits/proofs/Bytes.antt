@@ -5,7 +5,8 @@ use mathlib.Core.Bool.{true, ◌&&◌}
 use mathlib.Core.List.{List, [], ◌∷◌}
 use Prim.Native.Nat.{ℕ, zero, suc, ◌+◌, ◌*◌, ◌/◌, ◌%◌, ◌<◌, ◌≤◌}
 use native.Mathlib.Omega.{arith}
-use lib.ListN.{length, get_or-eq_default}
+use lib.ListN.{length, get_or, get_or-eq_default}
+use Rattle.std.specs.Simd.{first_chunks}
 use Rattle.rule.specs.Places.{at}
 use Rattle.rule.proofs.Tests.{both_true}
 use Rattle.digits.specs.Digits.{is_digit, digit_value, all_digits, bytes_of, digits_of}
@@ -19,16 +20,15 @@ length_bytes (h ∷ l ∷ cs) = let more = length_bytes cs in omega arith
 
 -- ---- the byte at a place
 
-pub byte_here : (line : List ℕ) (i : ℕ) → i < length line / 2
-    → at (bytes_of line) i ≡ digit_value (at line (2 * i)) * 16 + digit_value (at line (2 * i + 1))
+-- Of the line cut into pairs, the pair at a place has the digits of the byte there.
+pub byte_of_pair : (line : List ℕ) (k i : ℕ) (pair : List ℕ) → 2 * k ≤ length line → i < k → pair ≡ get_or (first_chunks 2 k line) i pair
+    → at (bytes_of line) i ≡ digit_value (at pair 0) * 16 + digit_value (at pair 1)
 unfolding bytes_of
-byte_here [] i h = absurd (omega arith)
-byte_here (x ∷ []) i h = absurd (omega arith)
-byte_here (x ∷ y ∷ cs) zero h = refl
-byte_here (x ∷ y ∷ cs) (suc i) h =
-    let first : 2 * suc i ≡ suc (suc (2 * i)) = omega arith in
-    let second : suc (suc (2 * i)) + 1 ≡ suc (suc (2 * i + 1)) = omega arith in
-    rw (first, second) (byte_here cs i (omega arith))
+byte_of_pair line zero i pair n h e = absurd (omega arith)
+byte_of_pair [] (suc k) i pair n h e = absurd (omega arith)
+byte_of_pair (x ∷ []) (suc k) i pair n h e = absurd (omega arith)
+byte_of_pair (x ∷ y ∷ cs) (suc k) zero pair n h e = rw e
+byte_of_pair (x ∷ y ∷ cs) (suc k) (suc i) pair n h e = byte_of_pair cs k i pair (omega arith) (omega arith) e
 
 pub byte_past : (line : List ℕ) (i : ℕ) → length line / 2 ≤ i → at (bytes_of line) i ≡ 0
 byte_past line i h = get_or-eq_default (bytes_of line) 0 (let n = length_bytes line in omega arith)

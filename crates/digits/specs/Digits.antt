@@ -1,5 +1,6 @@
 -- Document 01, "Frames": "lines of hexadecimal, capitals".
-use Rattle.std.specs.Prelude.{Bool, true, cond, ◌&&◌, ◌||◌, List, [], ◌∷◌, ℕ, ◌+◌, ◌-◌, ◌*◌, ◌/◌, ◌%◌, ltb, leb}
+use Rattle.std.specs.Prelude.{Bool, cond, ◌||◌, List, [], ◌∷◌, ℕ, ◌+◌, ◌-◌, ◌*◌, ◌/◌, ◌%◌, ltb, leb}
+use Rattle.std.specs.List.{list_all}
 use Rattle.rule.specs.Limits.{within}
 
 -- 0 to 9 are the bytes 30 to 39 hexadecimal, A to F the bytes 41 to 46.
@@ -14,8 +15,7 @@ abbrev pub digit_of : ℕ → ℕ
 digit_of v = cond (ltb v 10) (v + 0x30) (v + 0x37)
 
 unfoldable pub all_digits : List ℕ → Bool
-all_digits [] = true
-all_digits (c ∷ cs) = is_digit c && all_digits cs
+all_digits line = list_all is_digit line
 
 -- The bytes that a line's digits stand for, two a byte.
 unfoldable pub bytes_of : List ℕ → List ℕ

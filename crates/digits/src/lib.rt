@@ -14,27 +14,14 @@ const TEN_BELOW_A: u8 = 0x37;
 pub fn all_digits(line: &[u8]) -> bool
     ensures { result ≡ all_digits line.now }
 {
-    let mut i = 0;
-    while i < line.len() {
-        if !is_digit(line[i]) {
-            return false;
-        }
-        i += 1;
-    }
-    true
+    line.iter().all(|&c| is_digit(c))
 }
 
 // 0 to 9 and A to F: no lower case.
 fn is_digit(c: u8) -> bool
     ensures { result ≡ is_digit c }
 {
-    if c <= b'9' {
-        return c >= b'0';
-    }
-    if c < b'A' {
-        return false;
-    }
-    c <= b'F'
+    matches!(c, b'0'..=b'9' | b'A'..=b'F')
 }
 
 // The byte at place i that a line's digits stand for; 0 past the last. Of other characters it is some number, of no use.
@@ -42,11 +29,11 @@ pub fn byte_at(line: &[u8], i: usize) -> u32
     ensures value { result ≡ at (bytes_of line.now) i }
     ensures small { result ≤ 3400 }
 {
-    // Half the length first, since 2 * i may be no usize.
-    if i >= line.len() / 2 {
+    let (pairs, _) = line.as_chunks::<2>();
+    let Some(&[high, low]) = pairs.get(i) else {
         return 0;
-    }
-    digit_value(line[2 * i]) * 16 + digit_value(line[2 * i + 1])
+    };
+    digit_value(high) * 16 + digit_value(low)
 }
 
 // What a digit counts, and what its definition gives for any other byte.
@@ -54,13 +41,12 @@ fn digit_value(c: u8) -> u32
     ensures value { result ≡ digit_value c }
     ensures small { result ≤ 200 }
 {
-    if c < b'0' {
-        return 0;
-    }
-    if c <= b'9' {
-        return (c - b'0') as u32;
-    }
-    (c - TEN_BELOW_A) as u32
+    let counts = if c <= b'9' {
+        c.saturating_sub(b'0')
+    } else {
+        c - TEN_BELOW_A
+    };
+    u32::from(counts)
 }
 
 // The number in two bytes from place i on.
@@ -78,6 +64,7 @@ pub fn pair_at(line: &[u8], i: usize) -> u32
 pub fn put_byte(out: &mut [u8], at: usize, byte: u8)
     ensures { out.new ≡ sets out.old at (digits_of (byte ∷ [])) }
 {
+    // By index, since of a slice that `get_mut` wrote to a proof knows the length alone.
     let n = out.len();
     if at >= n {
         return;
@@ -106,10 +93,8 @@ pub fn put_field(out: &mut [u8], at: usize, width: u8, value: u32)
         return;
     }
     let mut place = at;
-    let mut left = width;
-    while left > 0 {
-        left -= 1;
-        put_byte(out, place, byte_of(value, left));
+    for after in (0..width).rev() {
+        put_byte(out, place, byte_of(value, after));
         place += 2;
     }
 }
@@ -118,11 +103,9 @@ pub fn put_field(out: &mut [u8], at: usize, width: u8, value: u32)
 fn byte_of(value: u32, after: u8) -> u8
     ensures { result ≡ value / 256 ^ after % 256 }
 {
-    match after {
-        0 => (value % 256) as u8,
-        1 => (value / 0x100 % 256) as u8,
-        2 => (value / 0x10000 % 256) as u8,
-        3 => (value / 0x1000000) as u8,
-        _ => 0,
-    }
+    value
+        .to_le_bytes()
+        .get(usize::from(after))
+        .copied()
+        .unwrap_or(0)
 }

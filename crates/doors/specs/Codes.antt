@@ -23,10 +23,14 @@ code_of r = number_of r * 0x100000000 + amount (carried_by r)
 
 -- ---- answers
 
+-- An answer by a number of its own, and a refusal by its code.
+abbrev pub coded : {X : Type 0} → (X → ℕ) → Result X Refusal → ℕ
+coded own (Ok x) = own x
+coded own (Err r) = code_of r
+
 -- Done is 0. No refusal has the number 0, so that no refusal is mistaken for it.
 abbrev pub outcome_code : Result Unit Refusal → ℕ
-outcome_code (Ok tt) = 0
-outcome_code (Err r) = code_of r
+outcome_code = coded (λ done. 0)
 
 -- A run: the slots done times 2^40, and in the 40 bits below how it ended.
 abbrev pub ran_code : Ran → ℕ
@@ -40,13 +44,11 @@ order_code Tie = 2
 
 -- The order, or a refusal, whose code is 2^32 or more.
 abbrev pub comparison_code : Result Order Refusal → ℕ
-comparison_code (Ok o) = order_code o
-comparison_code (Err r) = code_of r
+comparison_code = coded order_code
 
 -- Accepted is 0; what was accepted is stored.
 abbrev pub admission_code : Result Accepted Refusal → ℕ
-admission_code (Ok a) = 0
-admission_code (Err r) = code_of r
+admission_code = coded (λ accepted. 0)
 
 -- ---- what admission stores
 

@@ -1,11 +1,10 @@
-// Document 01's entries for a host program, which links them as a static library: both doors. An answer is one number
-// (specs/Codes.antt), so that nothing but numbers and lent lists crosses over.
+// Document 01's entries for a host program, which links them as a static library: both doors. The C interface is why they take and
+// answer plain numbers and lent lists: an answer is one number (specs/Codes.antt).
 #![tactic(auto)]
 
-ghost use Rattle.std.specs.Prelude.{◌≡◌, ◌<◌, ◌≤◌, set};
+ghost use Rattle.std.specs.Prelude.{◌≡◌, ◌<◌, ◌≤◌};
 ghost use Rattle.std.proofs.lemmas.List.Edits.{sets};
 ghost use Rattle.rule.specs.Limits.{slots_most};
-ghost use Rattle.rule.specs.Layout.{requirement_of, period_of};
 ghost use Rattle.rule.specs.Answers.{carried_by};
 ghost use Rattle.rule.specs.Outcomes.{admission, comparison, slot, run, listing};
 ghost use Rattle.records.specs.Door.{requirements_of, periods_of, counts_of, with_counts};
@@ -19,16 +18,9 @@ fn amount_of(refusal: Refusal) -> u32
     ensures { result ≡ amount (carried_by refusal) }
 {
     match refusal {
-        Refusal::Lengths => 0,
-        Refusal::Tasks => 0,
-        Refusal::Units => 0,
-        Refusal::Record { place } => place,
-        Refusal::Multiple => 0,
+        Refusal::Record { place } | Refusal::Lag { place } => place,
         Refusal::Load { excess } => excess,
-        Refusal::Time => 0,
-        Refusal::Lag { place } => place,
-        Refusal::Stuck => 0,
-        Refusal::Slots => 0,
+        _ => 0,
     }
 }
 
@@ -37,7 +29,7 @@ fn code_of(refusal: Refusal) -> u64
     ensures code { result ≡ code_of refusal }
     ensures room { result < 0x10000000000 }
 {
-    (rule::number_of(refusal) as u64) * 0x100000000 + (amount_of(refusal) as u64)
+    u64::from(refusal.number()) * 0x100000000 + u64::from(amount_of(refusal))
 }
 
 // 0 for done.
@@ -45,10 +37,7 @@ fn outcome_code(outcome: Result<(), Refusal>) -> u64
     ensures code { result ≡ outcome_code outcome }
     ensures room { result < 0x10000000000 }
 {
-    match outcome {
-        Ok(()) => 0,
-        Err(refusal) => code_of(refusal),
-    }
+    outcome.map_or_else(code_of, |()| 0)
 }
 
 // The slots done times 2^40, and below them how the run ended. No more than 1,024 are ever done, so that nothing is lost.
@@ -56,8 +45,7 @@ fn ran_code(ran: Ran) -> u64
     requires { ran.done ≤ slots_most }
     ensures { result ≡ ran_code ran }
 {
-    let end = ran.end;
-    (ran.done as u64) * 0x10000000000 + outcome_code(end)
+    u64::from(ran.done) * 0x10000000000 + outcome_code(ran.end)
 }
 
 // Which of two goes first, as a number below every refusal's code.
@@ -71,54 +59,27 @@ fn order_code(order: Order) -> u64
     }
 }
 
-// An answer, or a refusal: its code is 2^32 or more, so that the two are told apart.
-fn comparison_code(comparison: Result<Order, Refusal>) -> u64
-    ensures { result ≡ comparison_code comparison }
+// M, L, and the spare's requirement and period, 0 and 0 if there is none.
+#[tactic(auto, unfolding(rule::specs::Layout::requirement_of, rule::specs::Layout::period_of))]
+fn four(accepted: Accepted) -> [u32; 4]
+    ensures { result ≡ four accepted }
 {
-    match comparison {
-        Ok(order) => order_code(order),
-        Err(refusal) => code_of(refusal),
-    }
-}
-
-// The spare's requirement, 0 if there is none.
-fn requirement_of(spare: Option<Weight>) -> u32
-    ensures { result ≡ requirement_of spare }
-{
-    match spare {
-        None => 0,
-        Some(Weight { e, p: _ }) => e,
-    }
-}
-
-// The spare's period, 0 if there is none.
-fn period_of(spare: Option<Weight>) -> u32
-    ensures { result ≡ period_of spare }
-{
-    match spare {
-        None => 0,
-        Some(Weight { e: _, p }) => p,
-    }
-}
-
-// One number in its place, if there is such a place.
-fn put_at(answer: &mut [u32], i: usize, number: u32)
-    ensures { answer.new ≡ set answer.old i number }
-{
-    if i < answer.len() {
-        answer[i] = number;
-    }
+    let Accepted {
+        units,
+        multiple,
+        spare,
+    } = accepted;
+    let (e, p) = spare.map_or((0, 0), |weight| (weight.e, weight.p));
+    [units, multiple, e, p]
 }
 
 // An accepted set as four numbers, as far as there is room.
 fn put_accepted(accepted: Accepted, answer: &mut [u32])
     ensures { answer.new ≡ sets answer.old 0 (four accepted) }
 {
-    let spare = accepted.spare;
-    put_at(answer, 0, accepted.units);
-    put_at(answer, 1, accepted.multiple);
-    put_at(answer, 2, requirement_of(spare));
-    put_at(answer, 3, period_of(spare));
+    let numbers = four(accepted);
+    let room = answer.len().min(numbers.len());
+    answer[..room].copy_from_slice(&numbers[..room]);
 }
 
 // What either door answers to an admission: a refusal leaves the list as it was.
@@ -149,12 +110,13 @@ pub extern "C" fn door_admit(
     put_admission(admission::admit(requirements, periods, m), answer)
 }
 
-// Comparison of e in p with e2 in p2 at time t: 0 first, 1 second, 2 tie.
+// Comparison of e in p with e2 in p2 at time t: 0 first, 1 second, 2 tie, or a refusal, whose code is 2^32 or more, so that the two are
+// told apart.
 #[unsafe(no_mangle)]
 pub extern "C" fn door_compare(e: u32, p: u32, e2: u32, p2: u32, t: u32) -> u64
     ensures { result ≡ comparison_code (comparison e p e2 p2 t) }
 {
-    comparison_code(order::compare(e, p, e2, p2, t))
+    order::compare(Weight { e, p }, Weight { e: e2, p: p2 }, t).map_or_else(code_of, order_code)
 }
 
 // One slot of a set lent as three lists, with a byte for each task.
@@ -175,6 +137,7 @@ pub extern "C" fn door_slot(
 }
 
 // Several slots of a set lent as three lists, with n bytes of the log for each.
+#[tactic(auto, using(run::proofs::Done::done_few))]
 #[unsafe(no_mangle)]
 pub extern "C" fn door_run(
     slots: u32,

@@ -2,18 +2,34 @@
 #![tactic(auto)]
 
 ghost use Rattle.std.specs.Prelude.{◌≡◌};
-ghost use Rattle.field.specs.LayOut.{filled_with, lay_out};
+ghost use Rattle.field.specs.LayOut.{filled_with, lay_out, requirements_in, periods_in};
 
 use rule::Weight;
 
 // The requirements and the periods of the tasks, the spare's after the last, and how many places that makes.
 #[derive(Drop)]
 pub struct Laid {
-    pub requirements: [u32; 65],
-    pub periods: [u32; 65],
-    pub size: usize,
+    requirements: [u32; 65],
+    periods: [u32; 65],
+    size: usize,
 }
 
+// The parts that are laid out. Of a set of more than 65 places, which no admission accepts, it is the first 65.
+impl Laid {
+    pub fn requirements(&self) -> &[u32]
+        ensures { result.now ≡ requirements_in self.now }
+    {
+        &self.requirements[..self.size.min(65)]
+    }
+
+    pub fn periods(&self) -> &[u32]
+        ensures { result.now ≡ periods_in self.now }
+    {
+        &self.periods[..self.size.min(65)]
+    }
+}
+
+#[tactic(auto, unfolding(crate::specs::LayOut::lay_out, rule::specs::Layout::requirement_of, rule::specs::Layout::period_of, rule::specs::Layout::places_of))]
 pub fn lay_out(requirements: &[u32], periods: &[u32], spare: Option<Weight>) -> Laid
     ensures { result ≡ lay_out requirements.now periods.now spare }
 {
@@ -37,10 +53,7 @@ fn filled(list: &[u32], rest: u32) -> [u32; 65]
     ensures { result ≡ filled_with list.now rest }
 {
     let mut all = [rest; 65];
-    let mut i = 0;
-    while i < 65 && i < list.len() {
-        all[i] = list[i];
-        i += 1;
-    }
+    let n = list.len().min(65);
+    all[..n].copy_from_slice(&list[..n]);
     all
 }

@@ -7,31 +7,32 @@ use native.Mathlib.Omega.{arith}
 use borrow.Author.Tests.{leb-true, eqb-true}
 use lib.Dec.{leb, eqb}
 use lib.ListN.{length, take}
+use Rattle.std.specs.Prelude.{Some, None}
 use Rattle.rule.specs.Places.{at, each}
 use Rattle.rule.proofs.Places.{length_each}
 use Rattle.rule.proofs.Written.{take_each}
 use Rattle.digits.specs.Digits.{all_digits, bytes_of}
 use Rattle.digits.specs.Fields.{field_at}
 use Rattle.digits.proofs.Bytes.{length_bytes}
-use Rattle.reading.specs.declared.Asked.TheVariants.{Admit, Run, List as Listing, Malformed}
+use Rattle.reading.specs.declared.Asked.TheVariants.{Admit, Run, List as Listing}
 use Rattle.reading.specs.Kinds.{Frame, admit, run, list, malformed, well_formed, admit_frame, run_frame, list_frame, frame_of, read}
 use Rattle.reading.specs.Asking.{asked_by, column}
 
-pub asked_run : (f : Frame) (s : ℕ) → asked_by f ≡ Run s → f ≡ run s
+pub asked_run : (f : Frame) (s : ℕ) → asked_by f ≡ Some (Run s) → f ≡ run s
 unfolding asked_by
 asked_run (admit m es ps) s q = absurd (let z : ◌≡◌ {A = ℕ} 0 1 = cc in omega arith)
 asked_run (run x) s q = cc
 asked_run list s q = absurd (let z : ◌≡◌ {A = ℕ} 0 1 = cc in omega arith)
 asked_run malformed s q = absurd (let z : ◌≡◌ {A = ℕ} 0 1 = cc in omega arith)
 
-pub asked_list : (f : Frame) → asked_by f ≡ Listing → f ≡ list
+pub asked_list : (f : Frame) → asked_by f ≡ Some Listing → f ≡ list
 unfolding asked_by
 asked_list (admit m es ps) q = absurd (let z : ◌≡◌ {A = ℕ} 0 1 = cc in omega arith)
 asked_list (run x) q = absurd (let z : ◌≡◌ {A = ℕ} 0 1 = cc in omega arith)
 asked_list list q = refl
 asked_list malformed q = absurd (let z : ◌≡◌ {A = ℕ} 0 1 = cc in omega arith)
 
-pub asked_malformed : (f : Frame) → asked_by f ≡ Malformed → f ≡ malformed
+pub asked_malformed : (f : Frame) → asked_by f ≡ None → f ≡ malformed
 unfolding asked_by
 asked_malformed (admit m es ps) q = absurd (let z : ◌≡◌ {A = ℕ} 0 1 = cc in omega arith)
 asked_malformed (run x) q = absurd (let z : ◌≡◌ {A = ℕ} 0 1 = cc in omega arith)
@@ -54,7 +55,7 @@ module _ (line : List ℕ) (m n : ℕ) where
   short w = leb-true (length line) 518 (second (leb 1 (length line)) (leb (length line) 518) (eqb (length line % 2) 0) (all_digits line) w)
 
   abbrev Admits : Frame → Type 0
-  Admits f = asked_by f ≡ Admit m n → (f ≡ admit m (take n (column line 3)) (take n (column line 5))) × (n ≤ 64)
+  Admits f = asked_by f ≡ Some (Admit m n) → (f ≡ admit m (take n (column line 3)) (take n (column line 5))) × (n ≤ 64)
 
   set_admits : length line ≤ 518 → length (bytes_of line) ≡ 3 + 4 * at (bytes_of line) 2
       → Admits (admit (at (bytes_of line) 1) (each (at (bytes_of line) 2) (record_at 3)) (each (at (bytes_of line) 2) (record_at 5)))

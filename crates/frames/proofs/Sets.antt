@@ -6,6 +6,7 @@ use Prim.Native.Nat.{ℕ, ◌+◌, ◌*◌}
 use native.Mathlib.Omega.{arith}
 use lib.ListN.{length, take}
 use lib.Seq.{length-take-le}
+use Rattle.std.specs.Prelude.{Some}
 use Rattle.rule.specs.declared.Accepted.{Accepted}
 use Rattle.rule.specs.declared.Refusal.{Refusal}
 use Rattle.rule.specs.Places.{each}
@@ -25,7 +26,7 @@ pub column_wide : (line : List ℕ) (k : ℕ) (es : List ℕ) → es ≡ column 
 unfolding column
 column_wide line k es is = ap length is ∙ length_each 64 (λ i. field_at 2 (bytes_of line) (k + 4 * i))
 
-module _ (line : List ℕ) (m n : ℕ) (asks : asked_by (read line) ≡ Admit m n) (es ps : List ℕ)
+module _ (line : List ℕ) (m n : ℕ) (asks : asked_by (read line) ≡ Some (Admit m n)) (es ps : List ℕ)
     (first-column : es ≡ column line 3) (second-column : ps ≡ column line 5) (w : Session) where
   set_reply : reply w (read line) ≡ admit_reply w m (take n es) (take n ps) (admission (take n es) (take n ps) m)
   unfolding reply

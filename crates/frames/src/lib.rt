@@ -108,7 +108,7 @@ fn listed(kept: &mut Kept<'_>, set: InForce, out: &mut [u8]) -> usize
 
 // The answer to a set: it is in force from time 0 on if admission accepts it, and else the former one stays.
 fn admitted(kept: &mut Kept<'_>, line: &[u8], m: u32, n: usize, out: &mut [u8]) -> usize
-    requires asked { (asked_by (read line.now) ≡ Asked.Admit m n) × (n ≤ 64) }
+    requires asked { (asked_by (read line.now) ≡ Some (Asked.Admit m n)) × (n ≤ 64) }
     requires room { HasRoom kept.old }
     ensures same { SameLists kept.old kept.new }
     ensures session { session_of kept.new ≡ (reply (session_of kept.old) (read line.now)).session }
@@ -145,11 +145,13 @@ pub fn answer(kept: &mut Kept<'_>, line: &[u8], out: &mut [u8]) -> usize
     if !kept.has_room() {
         return 0;
     }
-    match (reading::what_is_asked(line), kept.set) {
+    let Some(asked) = reading::what_is_asked(line) else {
+        return writing::put_malformed(out);
+    };
+    match (asked, kept.set) {
         (Asked::Admit { m, n }, _) => admitted(kept, line, m, n, out),
         (Asked::Run { slots }, Some(set)) => ran(kept, set, slots, out),
         (Asked::List, Some(set)) => listed(kept, set, out),
-        // A run or a listing before any set is accepted is malformed too.
-        _ => writing::put_malformed(out),
+        (_, None) => writing::put_malformed(out), // A run or a listing before any set is accepted.
     }
 }

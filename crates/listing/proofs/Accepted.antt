@@ -1,6 +1,6 @@
 -- A listing of a set, by what admission answers: another length or a refusal of admission is the listing's own, and of an accepted set
 -- the judge of the laid-out field decides the rest. Assumes nothing.
-use Rattle.std.specs.Prelude.{Err, Ok}
+use Rattle.std.specs.Prelude.{Err, Ok, Result}
 use mathlib.Core.Path.{◌≡◌, sym, ap, ◌∙◌}
 use mathlib.Core.Bool.{true}
 use mathlib.Core.List.{List, [], ◌∷◌, ◌++◌}
@@ -14,19 +14,18 @@ use Rattle.rule.specs.declared.Refusal.TheVariants.{Lengths}
 use Rattle.rule.specs.Outcomes.{acceptance, admission, ListingAfter, listing_by, listing}
 use Rattle.rule.specs.Refusals.{passed, first, differ, times, lags, set_checks, admission_checks, listing_checks}
 use Rattle.rule.specs.Sets.{units_in_use}
-use Rattle.rule.proofs.Places.{length_each}
 use Rattle.rule.proofs.Refusals.{or_next, first_or, first_append, given_first, admission_refusal}
 use Rattle.rule.proofs.Sets.{AcceptedSet, accepted_set}
 use Rattle.admission.proofs.Laws.{accepted_tells}
 use Rattle.field.specs.declared.Laid.{Laid}
 use Rattle.field.specs.LayOut.{lay_out}
 use Rattle.field.proofs.OfSet.{laid_requirements, laid_periods}
-use Rattle.field.proofs.Accepted.{accepted_units, laid_fits, accepted_requirements, accepted_periods}
-use Rattle.standing.specs.declared.Judged.{Judged}
+use Rattle.field.proofs.Accepted.{accepted_units, accepted_requirements, accepted_periods}
+use Rattle.standing.specs.declared.Rung.{Rung}
 use Rattle.standing.specs.Judged.{rungs_of, judged}
 use Rattle.standing.specs.Laid.{laid_checks}
 use Rattle.standing.proofs.OfSet.{laid_first}
-use Rattle.standing.proofs.Told.{judged_refused, judged_passed, judged_rungs}
+use Rattle.standing.proofs.Told.{judged_refused, judged_passed, length_rungs}
 use Rattle.listing.specs.Marks.{marks_by}
 use Rattle.listing.proofs.Marks.{marks_of_set}
 
@@ -65,11 +64,7 @@ module _ (es ps ks bytes : List ℕ) (m t : ℕ) where
       set : AcceptedSet es ps m
       set = accepted_set es ps m tells.0 tells.1
 
-      -- The laid-out lists have room for the whole field.
-      pub fits : (laid.size ≤ length laid.requirements) × (laid.size ≤ length laid.periods)
-      fits = laid_fits es ps m set a tells.2 laid out
-
-      module _ (j : Judged) (is : j ≡ judged a.units (take laid.size laid.requirements) (take laid.size laid.periods) ks t) where
+      module _ (j : Result (List Rung) Refusal) (is : j ≡ judged a.units (take laid.size laid.requirements) (take laid.size laid.periods) ks t) where
         judged_set : j ≡ judged (units_in_use es ps) (laid_requirements es ps) (laid_periods es ps) ks t
         judged_set =
             is
@@ -86,27 +81,25 @@ module _ (es ps ks bytes : List ℕ) (m t : ℕ) where
             rw (eq-eqb (length ps) (length es) tells.0, eq-eqb (length ks) (length es) same, eq-eqb (length bytes) (length es) wide)
             (first_append (set_checks es ps m) (times t ∷ lags es ps ks t ∷ []) tells.1 ∙ sym (laid_first es ps ks same t m set))
 
-        pub listing_not_judged : (r : Refusal) → j.outcome ≡ Err r → unchanged r ≡ listing es ps ks bytes m t
+        pub listing_not_judged : (r : Refusal) → j ≡ Err r → unchanged r ≡ listing es ps ks bytes m t
         unfolding listing listing_by
         listing_not_judged r h =
-            let given = ap (λ j. j.outcome) (sym judged_set) ∙ h in
-            rw (verdict, judged_refused (units_in_use es ps) (laid_requirements es ps) (laid_periods es ps) ks t r given)
+            rw (verdict, judged_refused (units_in_use es ps) (laid_requirements es ps) (laid_periods es ps) ks t r (sym judged_set ∙ h))
 
-        module _ (h : j.outcome ≡ Ok tt) where
-          done : (judged (units_in_use es ps) (laid_requirements es ps) (laid_periods es ps) ks t).outcome ≡ Ok tt
-          done = ap (λ j. j.outcome) (sym judged_set) ∙ h
-
-          rungs_are : j.rungs ≡ rungs_of (units_in_use es ps) (laid_requirements es ps) (laid_periods es ps) ks t
-          rungs_are = ap (λ j. j.rungs) judged_set ∙ judged_rungs (units_in_use es ps) (laid_requirements es ps) (laid_periods es ps) ks t done
+        module _ (rungs : List Rung) (h : j ≡ Ok rungs) where
+          answered : (first (laid_checks (units_in_use es ps) (laid_requirements es ps) (laid_periods es ps) ks t) ≡ passed)
+              × (rungs ≡ rungs_of (units_in_use es ps) (laid_requirements es ps) (laid_periods es ps) ks t)
+          answered = judged_passed (units_in_use es ps) (laid_requirements es ps) (laid_periods es ps) ks t rungs (sym judged_set ∙ h)
 
           -- There is a rung for each byte.
-          pub rungs_cover : length bytes ≤ length j.rungs
-          unfolding rungs_of
-          rungs_cover = let all = ap length rungs_are ∙ length_each 65 _ in omega (arith, set.tasks_le)
+          pub rungs_cover : length bytes ≤ length rungs
+          rungs_cover =
+              let all = ap length answered.1 ∙ length_rungs (units_in_use es ps) (laid_requirements es ps) (laid_periods es ps) ks t in
+              omega (arith, set.tasks_le)
 
-          pub listing_marked : (bs : List ℕ) → bs ≡ marks_by (length bytes) j.rungs
+          pub listing_marked : (bs : List ℕ) → bs ≡ marks_by (length bytes) rungs
               → record { answer = Ok tt; bytes = bs } ≡ listing es ps ks bytes m t
           unfolding listing listing_by
           listing_marked bs written =
-              rw (verdict, judged_passed (units_in_use es ps) (laid_requirements es ps) (laid_periods es ps) ks t done, written, wide, rungs_are)
+              rw (verdict, answered.0, written, wide, answered.1)
               (ap (λ bs. record { answer = Ok tt; bytes = bs }) (marks_of_set es ps m set ks same t))

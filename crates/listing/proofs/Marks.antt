@@ -1,5 +1,5 @@
--- A mark by rung is the mark by standing: rung 0 is tnegru and so ahead, rung 4 is urgent and so behind, and the rungs between them
--- are the three standings. Assumes nothing.
+-- A mark by rung is the mark by standing: who is tnegru is ahead, who is urgent is behind, and the rungs between them are the three
+-- standings. Assumes nothing.
 use Rattle.std.specs.Prelude.{None, Option, Some}
 use mathlib.Core.Path.{◌≡◌, refl, ap, ◌∙◌}
 use mathlib.Core.Bool.{Bool, true, false, cond, not, ◌&&◌}
@@ -13,7 +13,7 @@ use Rattle.rule.specs.declared.Standing.{Standing}
 use Rattle.rule.specs.declared.Standing.TheVariants.{Ahead, Punctual, Behind}
 use Rattle.rule.specs.Answers.{mark}
 use Rattle.rule.specs.Outcomes.{mark_at}
-use Rattle.rule.specs.Places.{at, each}
+use Rattle.rule.specs.Places.{each}
 use Rattle.rule.specs.Sets.{units_in_use, spare, task_at, field_with, field}
 use Rattle.rule.specs.Slot.{is_ahead, is_behind, is_plus, is_minus, tnegru, urgent}
 use Rattle.rule.specs.Task.{Entry, symbol, standing}
@@ -21,16 +21,18 @@ use Rattle.rule.proofs.Placed.{task_place}
 use Rattle.rule.proofs.Places.{each_ext}
 use Rattle.rule.proofs.Sets.{AcceptedSet}
 use Rattle.field.proofs.OfSet.{laid_requirements, laid_periods, size_fits}
-use Rattle.standing.specs.Judged.{between, rung, rungs_of}
+use Rattle.standing.specs.declared.Rung.{Rung}
+use Rattle.standing.specs.declared.Rung.TheVariants.{Tnegru, Urgent}
+use Rattle.standing.specs.Judged.{between, rung, rung_at, rungs_of}
 use Rattle.standing.proofs.OfSet.{length_laid, laid_entry_lem}
 use Rattle.standing.proofs.Told.{at_rungs}
 use Rattle.listing.specs.Marks.{mark_by, marks_by}
 
 mark_of_rung : (t : ℕ) (x : Entry) → mark_by (rung t x) ≡ mark (standing t x)
-unfolding mark_by rung mark tnegru urgent
+unfolding rung mark tnegru urgent
 mark_of_rung t x = go (standing t x) (not (is_plus (symbol x.e x.p t))) (not (is_minus (symbol x.e x.p t)))
   where
-    go : (s : Standing) (a b : Bool) → mark_by (cond (is_ahead s && a) 0 (cond (is_behind s && b) 4 (between s))) ≡ mark s
+    go : (s : Standing) (a b : Bool) → mark_by (cond (is_ahead s && a) Tnegru (cond (is_behind s && b) Urgent (between s))) ≡ mark s
     go Ahead true b = refl
     go Ahead false b = refl
     go Punctual a b = refl
@@ -52,10 +54,10 @@ pub marks_of_set : (es ps : List ℕ) (m : ℕ) → AcceptedSet es ps m → (ks 
 unfolding marks_by mark_at
 marks_of_set es ps m A ks same t = each_ext (length es) _ (mark_at es ps ks t) here
   where
-    rungs : List ℕ
+    rungs : List Rung
     rungs = rungs_of (units_in_use es ps) (laid_requirements es ps) (laid_periods es ps) ks t
 
-    here : (i : ℕ) → i < length es → mark_by (at rungs i) ≡ mark (standing t (task_at es ps ks i))
+    here : (i : ℕ) → i < length es → mark_by (rung_at rungs i) ≡ mark (standing t (task_at es ps ks i))
     here i l =
         let place = task_place es ps i l in
         let sized = length_laid es ps in

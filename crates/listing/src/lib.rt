@@ -6,6 +6,7 @@ ghost use Rattle.rule.specs.Outcomes.{admission, listing};
 ghost use Rattle.listing.specs.Marks.{mark_by, marks_by};
 
 use rule::{Accepted, Refusal};
+use standing::Rung;
 
 const AHEAD: u8 = 0x41;
 
@@ -13,26 +14,24 @@ const PUNCTUAL: u8 = 0x50;
 
 const BEHIND: u8 = 0x4C;
 
-// The mark of a task on a rung.
-fn mark_of(rung: u8) -> u8
+// The mark of a task on a rung: who is tnegru is ahead, and who is urgent is behind.
+fn mark_of(rung: Rung) -> u8
     ensures { result ≡ mark_by rung }
 {
-    if rung < 2 {
-        return AHEAD;
+    match rung {
+        Rung::Tnegru | Rung::Ahead => AHEAD,
+        Rung::Punctual => PUNCTUAL,
+        Rung::Behind | Rung::Urgent => BEHIND,
     }
-    if rung == 2 { PUNCTUAL } else { BEHIND }
 }
 
 // Writes the mark of each task.
-fn write_marks(rungs: &[u8], bytes: &mut [u8])
+fn write_marks(rungs: &[Rung], bytes: &mut [u8])
     requires { length bytes.old ≤ length rungs.now }
     ensures bytes { bytes.new ≡ marks_by (length bytes.old) rungs.now }
 {
-    let n = bytes.len();
-    let mut i = 0;
-    while i < n {
-        bytes[i] = mark_of(rungs[i]);
-        i += 1;
+    for (i, byte) in bytes.iter_mut().enumerate() {
+        *byte = mark_of(rungs[i]);
     }
 }
 
@@ -53,15 +52,13 @@ fn list_accepted(
 {
     let spare = accepted.spare;
     let laid = field::lay_out(requirements, periods, spare);
-    let size = laid.size;
-    let es = laid.requirements;
-    let ps = laid.periods;
-    let judged = standing::judge(accepted.units, &es[..size], &ps[..size], counts, t);
-    let outcome = judged.outcome;
-    if let Err(refusal) = outcome {
-        return Err(refusal);
-    }
-    let rungs = judged.rungs;
+    let rungs = standing::judge(
+        accepted.units,
+        laid.requirements(),
+        laid.periods(),
+        counts,
+        t,
+    )?;
     write_marks(&rungs, bytes);
     Ok(())
 }

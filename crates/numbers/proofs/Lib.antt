@@ -1,4 +1,3 @@
 pub mod Common
 pub mod Euclid
-pub mod Limit
 pub mod Quotient

@@ -1,6 +1,5 @@
 -- Greatest common divisor and lowest terms. Assumes nothing.
 use Rattle.std.specs.Prelude.{ℕ, zero, suc, ◌/◌, ◌%◌}
-use Rattle.std.specs.Int.{◌∣◌}
 use Rattle.numbers.specs.declared.Fraction.{Fraction}
 
 -- Euclid's rule in at most n steps: while b is not 0, go on with b and the remainder of a by b.
@@ -12,12 +11,6 @@ euclid (suc n) a (suc b) = euclid n (suc b) (a % suc b)
 -- The greatest common divisor. The remainder falls at each step, so b steps and one are enough.
 unfoldable pub gcd : ℕ → ℕ → ℕ
 gcd a b = euclid (suc b) a b
-
--- Which number it is: it divides both, and every number that divides both divides it.
-pub record IsGcd (a b g : ℕ) : Type 0 where
-  pub left : g ∣ a
-  pub right : g ∣ b
-  pub greatest : (d : ℕ) → d ∣ a → d ∣ b → d ∣ g
 
 -- A fraction in lowest terms: both parts divided by their greatest common divisor.
 unfoldable pub lowest_terms : ℕ → ℕ → Fraction

@@ -1,9 +1,7 @@
 -- Least common multiple of two numbers, of a list, and under a limit. Assumes nothing.
-use Rattle.std.specs.Prelude.{cond, List, [], ◌∷◌, ℕ, ◌*◌, ◌/◌, ◌<◌, leb, length, get_or}
+use Rattle.std.specs.Prelude.{Option, Some, None, cond, List, [], ◌∷◌, ℕ, ◌*◌, ◌/◌, ◌<◌, leb, length, get_or}
 use Rattle.std.specs.Int.{◌∣◌}
 use Rattle.numbers.specs.Divide.{gcd}
-use Rattle.numbers.specs.declared.Multiple.{Multiple}
-use Rattle.numbers.specs.declared.Multiple.TheVariants.{At, Above}
 
 unfoldable pub lcm : ℕ → ℕ → ℕ
 lcm a b = a / gcd a b * b
@@ -18,6 +16,6 @@ pub record IsLcmAll (ps : List ℕ) (l : ℕ) : Type 0 where
   pub multiple : (i : ℕ) → i < length ps → get_or ps i 0 ∣ l
   pub least : (m : ℕ) → ((i : ℕ) → i < length ps → get_or ps i 0 ∣ m) → l ∣ m
 
--- The least common multiple where it is at most `most`, or that it is above.
-abbrev pub within : ℕ → ℕ → Multiple
-within most l = cond (leb l most) (At l) Above
+-- The number where it is at most `most`, and nothing where it is above.
+abbrev pub within : ℕ → ℕ → Option ℕ
+within most l = cond (leb l most) (Some l) None

@@ -1,8 +1,9 @@
 // Numbers: Euclid's rule, least common multiples under a limit, lowest terms.
 #![tactic(auto)]
 
-ghost use Rattle.std.specs.Prelude.{true, false, ◌≡◌, ℕ, ◌<◌, length, get_or};
-ghost use Rattle.numbers.specs.Divide.{gcd as gcd_of, IsGcd, lowest_terms};
+ghost use Rattle.std.specs.Prelude.{◌≡◌, ◌<◌};
+ghost use Rattle.std.specs.Int.{IsGcd};
+ghost use Rattle.numbers.specs.Divide.{gcd as gcd_of, lowest_terms};
 ghost use Rattle.numbers.specs.Multiple.{lcm, lcm_all, within};
 
 // A fraction, above over below.
@@ -10,13 +11,6 @@ ghost use Rattle.numbers.specs.Multiple.{lcm, lcm_all, within};
 pub struct Fraction {
     pub above: u32,
     pub below: u32,
-}
-
-// A least common multiple, or that it is above the limit.
-#[derive(Clone, Copy)]
-pub enum Multiple {
-    At(u32),
-    Above,
 }
 
 // The greatest common divisor; of 0 and 0 it is 0.
@@ -42,58 +36,34 @@ pub fn lowest_terms(above: u32, below: u32) -> Fraction
 }
 
 // The least common multiple of all periods where it is at most `most`; 0 where a period is 0.
-pub fn least_multiple(periods: &[u32], most: u32) -> Multiple
+pub fn least_multiple(periods: &[u32], most: u32) -> Option<u32>
     ensures { result ≡ within most (lcm_all periods.now) }
 {
     // A 0 makes the whole 0, however large the multiple of the others.
-    if has_zero(periods) {
-        return Multiple::At(0);
+    if periods.contains(&0) {
+        return Some(0);
     }
-    let mut multiple: u32 = 1;
-    let mut i = periods.len();
-    while i > 0 {
-        i -= 1;
+    let mut multiple = 1;
+    for &period in periods.iter().rev() {
         // With no 0 the multiple never falls again, so once above is above for good.
-        let Multiple::At(next) = multiple_with(periods[i], multiple, most) else {
-            return Multiple::Above;
-        };
-        multiple = next;
+        multiple = multiple_with(period, multiple, most)?;
     }
-    limited(multiple as u64, most)
-}
-
-// Whether a number of the list is 0.
-fn has_zero(numbers: &[u32]) -> bool
-    ensures found { result ≡ true → lcm_all numbers.now ≡ 0 }
-    ensures none { result ≡ false → (i : ℕ) → i < length numbers.now → 0 < get_or numbers.now i 0 }
-{
-    let mut i = 0;
-    while i < numbers.len() {
-        if numbers[i] == 0 {
-            return true;
-        }
-        i += 1;
-    }
-    false
+    limited(u64::from(multiple), most)
 }
 
 // The least common multiple of two numbers where it is at most `most`.
-fn multiple_with(a: u32, b: u32, most: u32) -> Multiple
+fn multiple_with(a: u32, b: u32, most: u32) -> Option<u32>
     requires { 0 < a }
     ensures { result ≡ within most (lcm a b) }
 {
     // As a u64, since the product of two u32 may be no u32.
     let part = a / gcd(a, b);
-    limited((part as u64) * (b as u64), most)
+    limited(u64::from(part) * u64::from(b), most)
 }
 
 // The number itself where it is at most `most`.
-fn limited(multiple: u64, most: u32) -> Multiple
+fn limited(multiple: u64, most: u32) -> Option<u32>
     ensures { result ≡ within most multiple }
 {
-    if multiple <= most as u64 {
-        Multiple::At(multiple as u32)
-    } else {
-        Multiple::Above
-    }
+    u32::try_from(multiple).ok().filter(|&fits| fits <= most)
 }

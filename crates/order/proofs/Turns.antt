@@ -1,13 +1,10 @@
--- One turn of the comparison, by the ranks of the two symbols there: the lower rank loses, two symbols of rank 1 are both 0,
--- and any other two of one rank are the same and leave the comparison open. Assumes nothing.
-use mathlib.Core.Path.{◌≡◌, refl, sym, ap, ◌∙◌}
+-- One turn of the comparison: where the two symbols differ it is decided, two that are 0 end it in a tie, and any other two that are
+-- the same leave it open. Assumes nothing.
+use mathlib.Core.Path.{◌≡◌, refl, sym, ◌∙◌}
 use mathlib.Core.Logic.{◌≢◌}
-use mathlib.Core.Bool.{cond}
-use Prim.Native.Nat.{ℕ, zero, suc, ◌+◌, ◌-◌, ◌<◌, ◌≤◌}
+use Prim.Native.Nat.{ℕ, suc, ◌+◌, ◌-◌, ◌<◌}
 use native.Mathlib.Numerals.{add-one}
 use native.Mathlib.Omega.{arith}
-use lib.Dec.{ltb}
-use borrow.Author.Tests.{lt-ltb, le-ltb}
 use Rattle.rule.specs.declared.Symbol.{Symbol}
 use Rattle.rule.specs.declared.Symbol.TheVariants.{Minus, Zero, Plus}
 use Rattle.rule.specs.declared.Order.{Order}
@@ -15,35 +12,7 @@ use Rattle.rule.specs.declared.Order.TheVariants.{First, Second, Tie}
 use Rattle.rule.specs.Limits.{multiple_most}
 use Rattle.rule.specs.Task.{symbol, higher, compare}
 use Rattle.rule.proofs.Strings.{Compared, differ, ended_both, same, compared_one, EndsBy, here, later, compare_derived, ends_within}
-use Rattle.order.specs.Engine.{rank_of, Bounds}
-
--- ---- ranks
-
-by_rank : (a b : Symbol) → higher a b ≡ cond (ltb (rank_of a) (rank_of b)) Second (cond (ltb (rank_of b) (rank_of a)) First Tie)
-unfolding higher
-by_rank Minus Minus = refl
-by_rank Minus Zero = refl
-by_rank Minus Plus = refl
-by_rank Zero Minus = refl
-by_rank Zero Zero = refl
-by_rank Zero Plus = refl
-by_rank Plus Minus = refl
-by_rank Plus Zero = refl
-by_rank Plus Plus = refl
-
-ranked : ℕ → Symbol
-ranked zero = Minus
-ranked (suc zero) = Zero
-ranked (suc (suc n)) = Plus
-
-ranked_rank : (s : Symbol) → ranked (rank_of s) ≡ s
-unfolding ranked
-ranked_rank Minus = refl
-ranked_rank Zero = refl
-ranked_rank Plus = refl
-
-rank_one : (a b : Symbol) → rank_of a ≡ rank_of b → a ≡ b
-rank_one a b q = sym (ranked_rank a) ∙ ap ranked q ∙ ranked_rank b
+use Rattle.order.specs.Engine.{Bounds}
 
 first≢tie : First ≢ Tie
 first≢tie q = let z : ◌≡◌ {A = ℕ} 0 1 = cc in omega arith
@@ -65,45 +34,53 @@ ends e p t b =
 
 -- ---- a turn
 
--- At place i, where the symbols have the ranks x and y, the comparison answers o, and the first string ends before k.
-pub record Turn (a b : ℕ → Symbol) (k i : ℕ) (o : Order) (x y : ℕ) : Type 0 where
+tie_same : (a b : Symbol) → higher a b ≡ Tie → a ≡ b
+unfolding higher
+tie_same Minus Minus q = refl
+tie_same Zero Zero q = refl
+tie_same Plus Plus q = refl
+tie_same Minus Zero q = absurd (second≢tie q)
+tie_same Minus Plus q = absurd (second≢tie q)
+tie_same Zero Minus q = absurd (first≢tie q)
+tie_same Zero Plus q = absurd (second≢tie q)
+tie_same Plus Minus q = absurd (first≢tie q)
+tie_same Plus Zero q = absurd (first≢tie q)
+
+-- At place i, where the first symbol is x and the order of the two is r, the comparison answers o, and the first string ends before k.
+pub record Turn (a b : ℕ → Symbol) (k i : ℕ) (o : Order) (x : Symbol) (r : Order) : Type 0 where
   pub answers : Compared a b i o
   pub ends : EndsBy a (k - i) i
-  pub left : x ≡ rank_of (a i)
-  pub right : y ≡ rank_of (b i)
+  pub first : x ≡ a i
+  pub order : r ≡ higher (a i) (b i)
 
-module _ {a b : ℕ → Symbol} {k i : ℕ} {o : Order} {x y : ℕ} (w : Turn a b k i o x y) where
-  here_is : {o' : Order} → cond (ltb x y) Second (cond (ltb y x) First Tie) ≡ o' → higher (a i) (b i) ≡ o'
-  here_is q = rw (by_rank, ← w.left, ← w.right) q
+module _ {a b : ℕ → Symbol} {k i : ℕ} {o : Order} {x : Symbol} {r : Order} (w : Turn a b k i o x r) where
+  pub decided : (r ≡ Tie → ⊥) → r ≡ o
+  decided n = compared_one (differ (sym w.order) n) w.answers
 
-  pub below_second : x < y → Second ≡ o
-  below_second h = compared_one (differ (here_is (rw (lt-ltb x y h))) second≢tie) w.answers
-
-  pub above_first : y < x → First ≡ o
-  above_first h =
-      compared_one (differ (here_is (rw (le-ltb x y (omega arith), lt-ltb y x h))) first≢tie) w.answers
+  alike : r ≡ Tie → a i ≡ b i
+  alike q = tie_same (a i) (b i) (sym w.order ∙ q)
 
   -- Both symbols are 0.
-  pub zero_tie : y ≤ x → x ≤ y → x ≡ 1 → Tie ≡ o
-  zero_tie h g z =
-      let z' : y ≡ 1 = omega arith in
-      compared_one (ended_both (rank_one (a i) Zero (sym w.left ∙ z)) (rank_one (b i) Zero (sym w.right ∙ z'))) w.answers
+  pub zero_tie : r ≡ Tie → x ≡ Zero → r ≡ o
+  zero_tie q z =
+      let first_zero = sym w.first ∙ z in
+      q ∙ compared_one (ended_both first_zero (sym (alike q) ∙ first_zero)) w.answers
 
   -- The symbols are the same and not 0: the comparison goes on.
-  pub goes_on : y ≤ x → x ≤ y → (x ≡ 1 → ⊥) → Compared a b (i + 1) o
-  goes_on h g n = rw add-one (go w.answers)
+  pub goes_on : r ≡ Tie → (x ≡ Zero → ⊥) → Compared a b (i + 1) o
+  goes_on q n = rw add-one (go w.answers)
     where
       go : {o' : Order} → Compared a b i o' → Compared a b (suc i) o'
-      go (differ q m) = absurd (m (sym q ∙ here_is (rw (le-ltb x y h, le-ltb y x g))))
-      go (ended_both z z') = absurd (n (w.left ∙ ap (λ s. rank_of s) z))
-      go (same q m d) = d
+      go (differ h m) = absurd (m (sym h ∙ sym w.order ∙ q))
+      go (ended_both z z') = absurd (n (w.first ∙ z))
+      go (same h m d) = d
 
   -- The symbol is not 0: the string ends later.
-  pub ends_later : (x ≡ 1 → ⊥) → EndsBy a (k - (i + 1)) (i + 1)
+  pub ends_later : (x ≡ Zero → ⊥) → EndsBy a (k - (i + 1)) (i + 1)
   ends_later n = go w.ends refl
     where
       go : {m : ℕ} → EndsBy a m i → m ≡ k - i → EndsBy a (k - (i + 1)) (i + 1)
-      go (here z) q = absurd (n (w.left ∙ ap (λ s. rank_of s) z))
+      go (here z) q = absurd (n (w.first ∙ z))
       go {m = suc m} (later d) q =
           let less : k - (i + 1) ≡ m = omega arith in
           rw (less, add-one) d

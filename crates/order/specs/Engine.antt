@@ -1,17 +1,9 @@
 -- What the plain engine answers, for every input.
 use Rattle.std.specs.Prelude.{Bool, cond, ◌&&◌, ℕ, ◌<◌, ◌≤◌, leb}
-use Rattle.rule.specs.declared.Symbol.{Symbol}
-use Rattle.rule.specs.declared.Symbol.TheVariants.{Minus, Zero, Plus}
 use Rattle.rule.specs.declared.Order.{Order}
 use Rattle.rule.specs.declared.Order.TheVariants.{Tie}
 use Rattle.rule.specs.Limits.{multiple_most, time_most, bounded_by}
 use Rattle.rule.specs.Task.{compare}
-
--- "- below 0 below +", as numbers.
-abbrev pub rank_of : Symbol → ℕ
-rank_of Minus = 0
-rank_of Zero = 1
-rank_of Plus = 2
 
 -- The period is from 2 to `most`, and the requirement from 1 to p - 1.
 pub record Bounds (most e p : ℕ) : Type 0 where

@@ -7,6 +7,7 @@ pub mod Strings
 pub mod Ordering
 pub mod Refusals
 pub mod Places
+pub mod Searches
 pub mod Written
 pub mod Choice
 pub mod Sets

@@ -1,5 +1,5 @@
 -- Lists by their places, and what is counted, summed, searched for or written over the places from 0 to n - 1.
-use Rattle.std.specs.Prelude.{Bool, true, false, cond, List, [], ◌∷◌, ℕ, zero, suc, ◌+◌, get_or}
+use Rattle.std.specs.Prelude.{Bool, true, false, cond, Option, Some, None, List, [], ◌∷◌, ℕ, zero, suc, ◌+◌, ltb, get_or}
 
 -- What a list of numbers has at a place, and 0 past its end. No entry looks there: refusal 1 comes first.
 abbrev pub at : List ℕ → ℕ → ℕ
@@ -23,6 +23,10 @@ count n test = sum n (λ i. bit (test i))
 unfoldable pub lowest : ℕ → (ℕ → Bool) → ℕ
 lowest zero test = 0
 lowest (suc n) test = let later = suc (lowest n (λ i. test (suc i))) in cond (test 0) 0 later
+
+-- A place that is searched for below n: the place, or none where the search came to n.
+unfoldable pub found : ℕ → ℕ → Option ℕ
+found n place = cond (ltb place n) (Some place) None
 
 -- The list of f at the first n places.
 unfoldable pub each : ℕ → (ℕ → ℕ) → List ℕ

@@ -2,7 +2,7 @@
 // is set out in specs/Answers.antt.
 #![tactic(auto)]
 
-ghost use Rattle.std.specs.Prelude.{◌≡◌};
+ghost use Rattle.std.specs.Prelude.{◌≡◌, not, position, zip};
 ghost use Rattle.rule.specs.Answers.{number_of};
 ghost use Rattle.rule.specs.Limits.{bounded_by, valid};
 
@@ -90,35 +90,49 @@ pub struct Ran {
     pub end: Result<(), Refusal>,
 }
 
-// The number of a refusal in document 01.
-pub fn number_of(r: Refusal) -> u32
-    ensures { result ≡ number_of r }
-{
-    match r {
-        Refusal::Lengths => 1,
-        Refusal::Tasks => 2,
-        Refusal::Units => 3,
-        Refusal::Record { place: _ } => 4,
-        Refusal::Multiple => 5,
-        Refusal::Load { excess: _ } => 6,
-        Refusal::Time => 7,
-        Refusal::Lag { place: _ } => 8,
-        Refusal::Stuck => 9,
-        Refusal::Slots => 10,
+impl Refusal {
+    // Its number in document 01. No `From<Refusal> for u32`, which would not say whether the number or the place is meant.
+    pub fn number(self) -> u32
+        ensures { result ≡ number_of self }
+    {
+        match self {
+            Refusal::Lengths => 1,
+            Refusal::Tasks => 2,
+            Refusal::Units => 3,
+            Refusal::Record { place: _ } => 4,
+            Refusal::Multiple => 5,
+            Refusal::Load { excess: _ } => 6,
+            Refusal::Time => 7,
+            Refusal::Lag { place: _ } => 8,
+            Refusal::Stuck => 9,
+            Refusal::Slots => 10,
+        }
     }
 }
 
-// Is the period from 2 to `most`, and the requirement from 1 to p - 1?
-#[tactic(auto, unfolding(crate::specs::Limits::bounded_by))]
-pub fn bounded(most: u32, e: u32, p: u32) -> bool
-    ensures { result ≡ bounded_by most e p }
-{
-    2 <= p && p <= most && 1 <= e && e <= p - 1
+impl Weight {
+    // Is the period from 2 to `most`, and the requirement from 1 to p - 1?
+    #[tactic(auto, unfolding(crate::specs::Limits::bounded_by))]
+    pub fn bounded(self, most: u32) -> bool
+        ensures { result ≡ bounded_by most self.e self.p }
+    {
+        2 <= self.p && self.p <= most && 1 <= self.e && self.e <= self.p - 1
+    }
+
+    // Is it within the limits of a record?
+    pub fn is_valid(self) -> bool
+        ensures { result ≡ valid self.e self.p }
+    {
+        self.bounded(PERIOD_MOST)
+    }
 }
 
-// Is a record within its limits?
-pub fn within_limits(e: u32, p: u32) -> bool
-    ensures { result ≡ valid e p }
+// The lowest place whose record is outside the limits that go with `most`.
+pub fn outside_place(requirements: &[u32], periods: &[u32], most: u32) -> Option<usize>
+    ensures { result ≡ position (λ r. not (bounded_by most r.0 r.1)) (zip requirements.now periods.now) }
 {
-    bounded(PERIOD_MOST, e, p)
+    requirements
+        .iter()
+        .zip(periods)
+        .position(|(&e, &p)| !Weight { e, p }.bounded(most))
 }

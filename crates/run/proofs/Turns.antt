@@ -4,7 +4,7 @@ use Rattle.std.specs.Prelude.{Err, Ok, Result}
 use mathlib.Core.Path.{◌≡◌, sym, ap, ◌∙◌}
 use mathlib.Core.List.{List, [], ◌++◌, append_assoc}
 use Prim.Native.Nat.{ℕ, suc, ◌+◌, ◌-◌, ◌*◌, ◌≤◌, ◌<◌, max}
-use native.Mathlib.Nat.{zero-add, add-zero, add-suc, sub-zero, mul-le-mul_right}
+use native.Mathlib.Nat.{zero-add, zero-mul, add-zero, add-suc, sub-zero, mul-le-mul_right}
 use native.Mathlib.Omega.{arith}
 use lib.ListN.{length, take, drop, take-append-drop, length-append, length-take, length-drop}
 use lib.Seq.{take_at, drop_at}
@@ -38,24 +38,22 @@ moved d front bytes r =
 
 module _ (es ps : List ℕ) (m : ℕ) where
   -- Where the run of s slots from t, the counts ks₀ and the log log₀ stands after d of them.
-  pub record Going (s t : ℕ) (ks₀ log₀ ks log : List ℕ) (d from : ℕ) : Type 0 where
+  pub record Going (s t : ℕ) (ks₀ log₀ ks log : List ℕ) (d : ℕ) : Type 0 where
     pub few : d ≤ s
-    pub place : from ≡ d * length es
     pub counts : length ks ≡ length es
     pub whole : length log ≡ s * length es
     pub early : t + d ≤ max t (suc time_most)
-    pub runs : slots_from s es ps m t ks₀ log₀ ≡ resume d (take from log) (slots_from (s - d) es ps m (t + d) ks (drop from log))
+    pub runs : slots_from s es ps m t ks₀ log₀ ≡ resume d (take (d * length es) log) (slots_from (s - d) es ps m (t + d) ks (drop (d * length es) log))
 
-  pub going_start : (s t : ℕ) (ks log : List ℕ) → length ks ≡ length es → length log ≡ s * length es → Going s t ks log ks log 0 0
+  pub going_start : (s t : ℕ) (ks log : List ℕ) → length ks ≡ length es → length log ≡ s * length es → Going s t ks log ks log 0
   unfolding resume
   going_start s t ks log h g =
       record {
         few = omega arith;
-        place = omega arith;
         counts = h;
         whole = g;
         early = omega arith;
-        runs = sym (rw (sub-zero s, add-zero t) (resume_none (slots_from s es ps m t ks log)));
+        runs = sym (rw (sub-zero s, add-zero t, zero-mul (length es)) (resume_none (slots_from s es ps m t ks log)));
       }
     where
       resume_none : (r : RunAfter) → resume 0 [] r ≡ r
@@ -63,7 +61,11 @@ module _ (es ps : List ℕ) (m : ℕ) where
 
   -- ---- one turn
 
-  module _ (s t : ℕ) (ks₀ log₀ ks log : List ℕ) (d from : ℕ) (G : Going s t ks₀ log₀ ks log d from) (more : d < s) where
+  module _ (s t : ℕ) (ks₀ log₀ ks log : List ℕ) (d : ℕ) (G : Going s t ks₀ log₀ ks log d) (more : d < s) where
+    -- Where its part of the log begins.
+    abbrev from : ℕ
+    from = d * length es
+
     -- The slot that comes now, on its own part of the log.
     abbrev part : List ℕ
     part = take (length es) (drop from log)
@@ -72,7 +74,7 @@ module _ (es ps : List ℕ) (m : ℕ) where
     now = slot es ps ks part m (t + d)
 
     pub part_inside : from + length es ≤ length log
-    part_inside = omega (arith, G.place, G.whole, mul-le-mul_right (length es) more)
+    part_inside = omega (arith, G.whole, mul-le-mul_right (length es) more)
 
     pub part_length : length part ≡ length es
     part_length = omega (arith, length-take (length es) (drop from log), length-drop from log, part_inside)
@@ -93,12 +95,11 @@ module _ (es ps : List ℕ) (m : ℕ) where
     -- A done slot moves over to the front.
     pub going_next : now.answer ≡ Ok tt → t + d ≤ time_most → (ks' log' : List ℕ) → ks' ≡ now.counts
         → log' ≡ take from log ++ (now.bytes ++ drop (length es) (drop from log)) → length now.bytes ≡ length es → length ks' ≡ length es
-        → Going s t ks₀ log₀ ks' log' (suc d) (from + length es)
+        → Going s t ks₀ log₀ ks' log' (suc d)
     unfolding after_slot
     going_next q h ks' log' k l b c =
         record {
           few = more;
-          place = omega (arith, G.place);
           counts = c;
           whole = ap length l ∙ length-append front (now.bytes ++ back) ∙ omega (arith, length-append now.bytes back, front_length, length-drop (length es) (drop from log), length-drop from log, part_inside, G.whole);
           early = omega arith;
@@ -114,22 +115,22 @@ module _ (es ps : List ℕ) (m : ℕ) where
         front_length : length front ≡ from
         front_length = omega (arith, length-take from log, part_inside)
 
-        seam : length (front ++ now.bytes) ≡ from + length es
+        seam : length (front ++ now.bytes) ≡ suc d * length es
         seam = length-append front now.bytes ∙ omega (arith, front_length, b)
 
         regrouped : log' ≡ (front ++ now.bytes) ++ back
         regrouped = l ∙ sym (append_assoc front now.bytes back)
 
-        taken : take (from + length es) log' ≡ front ++ now.bytes
-        taken = ap (take (from + length es)) regrouped ∙ take_at (front ++ now.bytes) back (from + length es) seam
+        taken : take (suc d * length es) log' ≡ front ++ now.bytes
+        taken = ap (take (suc d * length es)) regrouped ∙ take_at (front ++ now.bytes) back (suc d * length es) seam
 
-        dropped : drop (from + length es) log' ≡ back
-        dropped = ap (drop (from + length es)) regrouped ∙ drop_at (front ++ now.bytes) back (from + length es) seam
+        dropped : drop (suc d * length es) log' ≡ back
+        dropped = ap (drop (suc d * length es)) regrouped ∙ drop_at (front ++ now.bytes) back (suc d * length es) seam
 
         rest : RunAfter
         rest = slots_from (s - suc d) es ps m (suc (t + d)) now.counts back
 
-        runs_on : slots_from s es ps m t ks₀ log₀ ≡ resume (suc d) (take (from + length es) log') (slots_from (s - suc d) es ps m (t + suc d) ks' (drop (from + length es) log'))
+        runs_on : slots_from s es ps m t ks₀ log₀ ≡ resume (suc d) (take (suc d * length es) log') (slots_from (s - suc d) es ps m (t + suc d) ks' (drop (suc d * length es) log'))
         runs_on =
             unrolled
             ∙ ap (λ o. resume d front (after_slot o ks (drop from log) now.bytes rest)) q
@@ -137,9 +138,12 @@ module _ (es ps : List ℕ) (m : ℕ) where
             ∙ rw (taken, dropped, k, add-suc)
 
   -- At the end all slots are done.
-  pub going_end : (s t : ℕ) (ks₀ log₀ ks log : List ℕ) (d from : ℕ) → Going s t ks₀ log₀ ks log d from → s ≤ d
-      → slots_from s es ps m t ks₀ log₀ ≡ record { answer = record { done = d; end = Ok tt }; counts = ks; log = log }
+  pub going_end : (s t : ℕ) (ks₀ log₀ ks log : List ℕ) (d : ℕ) → Going s t ks₀ log₀ ks log d → s ≤ d
+      → slots_from s es ps m t ks₀ log₀ ≡ record { answer = record { done = s; end = Ok tt }; counts = ks; log = log }
   unfolding slots_from
-  going_end s t ks₀ log₀ ks log d from G h =
+  going_end s t ks₀ log₀ ks log d G h =
+      let from = d * length es in
       let none : s - d ≡ 0 = omega (arith, G.few) in
+      let all : d ≡ s = omega (arith, G.few) in
       G.runs ∙ ap (λ x. resume d (take from log) (slots_from x es ps m (t + d) ks (drop from log))) none ∙ whole_log d from ks log (Ok tt)
+      ∙ ap (λ x. record { answer = record { done = x; end = Ok tt }; counts = ks; log = log }) all

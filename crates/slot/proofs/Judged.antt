@@ -19,15 +19,15 @@ use Rattle.rule.specs.Slot.{urgents, chosen}
 use Rattle.rule.specs.Refusals.{check, passed, refused, first}
 use Rattle.rule.proofs.Lags.{fair_bounds}
 use Rattle.rule.proofs.Limits.{bounded_numbers, within_numbers}
-use Rattle.rule.proofs.Places.{length_each, each_ext}
+use Rattle.rule.proofs.Places.{each_ext}
 use Rattle.rule.proofs.Refusals.{NoneHolds, none, and, or_next, first_or, first_none}
-use Rattle.standing.specs.declared.Judged.{Judged}
+use Rattle.standing.specs.declared.Rung.{Rung}
 use Rattle.standing.specs.Laid.{laid_count, laid_entry, laid_field, is_laid_out, wild_place, laid_unfair_place, laid_checks}
 use Rattle.standing.specs.Judged.{rungs_of, judged}
 use Rattle.standing.specs.Sound.{Sound}
 use Rattle.standing.proofs.Answers.{sound_lists, all_fair}
-use Rattle.standing.proofs.Told.{judged_refused, judged_passed, judged_rungs}
-use Rattle.slot.specs.Rungs.{Choosing, rungs_within, chosen_by, stuck_by, dealt_or_stuck, dealt_rungs}
+use Rattle.standing.proofs.Told.{judged_refused, judged_passed, length_rungs}
+use Rattle.slot.specs.Rungs.{Choosing, urgent_to, contending_to, chosen_by, stuck_by, dealt_or_stuck, dealt_rungs}
 use Rattle.slot.specs.Deal.{stuck, deal_checks, dealt_counts, dealt_bytes, dealt_by, dealt}
 use Rattle.slot.proofs.Chosen.{urgents_counted, not_tnegrus_counted, chosen_by_rungs}
 
@@ -55,14 +55,11 @@ module _ (units : ℕ) (es ps ks bytes : List ℕ) (t : ℕ) where
     unfolding deal_checks first
     deal_verdict = rw (eq-eqb (length bytes) (length ks) wide) (first_or (laid_checks units es ps ks t) (check (stuck units (laid_field units es ps ks t) t) Stuck ∷ []))
 
-    pub dealt_refused : (r : Refusal) → (judged units es ps ks t).outcome ≡ Err r → dealt units es ps ks bytes t ≡ record { answer = Err r; counts = ks; bytes = bytes }
+    pub dealt_refused : (r : Refusal) → judged units es ps ks t ≡ Err r → dealt units es ps ks bytes t ≡ record { answer = Err r; counts = ks; bytes = bytes }
     unfolding dealt dealt_by or_next
     dealt_refused r q = rw (deal_verdict, judged_refused units es ps ks t r q)
 
-    module _ (q : (judged units es ps ks t).outcome ≡ Ok tt) where
-      passes : first (laid_checks units es ps ks t) ≡ passed
-      passes = judged_passed units es ps ks t q
-
+    module _ (passes : first (laid_checks units es ps ks t) ≡ passed) where
       -- ---- what the choice may rely on
 
       told : Sound es ps ks t × (length ks < laid_unfair_place units es ps ks t)
@@ -75,12 +72,11 @@ module _ (units : ℕ) (es ps ks bytes : List ℕ) (t : ℕ) where
       all_within = all_fair units es ps ks t sound.most told.1
 
       pub choosing : Choosing es ps (rungs_of units es ps ks t) t
-      unfolding rungs_of
       choosing =
           record {
             same_length = sound.same;
             few = omega (arith, sound.most, sound.few);
-            rung_each = rw length_each (omega (arith, sound.most, sound.few));
+            rung_each = omega (arith, sound.most, sound.few, length_rungs units es ps ks t);
             bounded = sound.bounded;
             on_calendar = sound.early;
           }
@@ -101,11 +97,11 @@ module _ (units : ℕ) (es ps ks bytes : List ℕ) (t : ℕ) where
       same_stuck : stuck_by units (length es) (rungs_of units es ps ks t) ≡ stuck units (laid_field units es ps ks t) t
       unfolding stuck_by stuck
       same_stuck =
-          ap (λ u. ltb units u || ltb (rungs_within 4 4 (length es) rungs + rungs_within 1 3 (length es) rungs) units)
+          ap (λ u. ltb units u || ltb (urgent_to (length es) rungs + contending_to (length es) rungs) units)
           (urgents_counted units es ps ks t choosing.few)
           ∙ ap (λ o. ltb units (urgents t (laid_field units es ps ks t)) || ltb o units) (not_tnegrus_counted units es ps ks t choosing.few)
         where
-          rungs : List ℕ
+          rungs : List Rung
           rungs = rungs_of units es ps ks t
 
       pub dealt_by_rungs : dealt units es ps ks bytes t ≡ dealt_rungs units es ps (rungs_of units es ps ks t) ks bytes t
@@ -125,19 +121,16 @@ module _ (units : ℕ) (es ps ks bytes : List ℕ) (t : ℕ) where
 
 -- ---- the same of a judge's answer at hand
 
-module _ (units : ℕ) (es ps ks bytes : List ℕ) (t : ℕ) (wide : length bytes ≡ length ks) (j : Judged) (is : j ≡ judged units es ps ks t) (q : j.outcome ≡ Ok tt) where
-  done : (judged units es ps ks t).outcome ≡ Ok tt
-  done = ap (λ r. r.outcome) (sym is) ∙ q
+module _ (units : ℕ) (es ps ks bytes : List ℕ) (t : ℕ) (wide : length bytes ≡ length ks) (rungs : List Rung) (is : judged units es ps ks t ≡ Ok rungs) where
+  answered : (first (laid_checks units es ps ks t) ≡ passed) × (rungs ≡ rungs_of units es ps ks t)
+  answered = judged_passed units es ps ks t rungs is
 
-  rungs_are : j.rungs ≡ rungs_of units es ps ks t
-  rungs_are = ap (λ r. r.rungs) is ∙ judged_rungs units es ps ks t done
+  pub ready : Choosing es ps rungs t
+  ready = subst (λ r. Choosing es ps r t) (sym answered.1) (choosing units es ps ks bytes t wide answered.0)
 
-  pub ready : Choosing es ps j.rungs t × (((length ks ≤ length es) × (length bytes ≡ length ks)) × ((i : ℕ) → i < length ks → at ks i < 4294967295))
-  ready = (
-    subst (λ r. Choosing es ps r t) (sym rungs_are) (choosing units es ps ks bytes t wide done),
-    (((sound units es ps ks bytes t wide done).least, wide), small_counts units es ps ks bytes t wide done),
-  )
+  pub dealable : ((length ks ≤ length es) × (length bytes ≡ length ks)) × ((i : ℕ) → i < length ks → at ks i < 4294967295)
+  dealable = (((sound units es ps ks bytes t wide answered.0).least, wide), small_counts units es ps ks bytes t wide answered.0)
 
-  pub dealt_judged : dealt_rungs units es ps j.rungs ks bytes t ≡ dealt units es ps ks bytes t
+  pub dealt_judged : dealt_rungs units es ps rungs ks bytes t ≡ dealt units es ps ks bytes t
   dealt_judged =
-      ap (λ r. dealt_rungs units es ps r ks bytes t) rungs_are ∙ sym (dealt_by_rungs units es ps ks bytes t wide done)
+      ap (λ r. dealt_rungs units es ps r ks bytes t) answered.1 ∙ sym (dealt_by_rungs units es ps ks bytes t wide answered.0)

@@ -1,284 +1,207 @@
 // One slot: refusals 1 to 9, the choice, the counts and the bytes.
 #![tactic(auto)]
 
-ghost use Rattle.std.specs.Prelude.{◌≡◌, ℕ, ◌+◌, ◌-◌, ◌<◌, ◌≤◌, ltb, length, set, true, ◌&&◌};
-ghost use Rattle.rule.specs.Limits.{time_most, multiple_most, bounded_by, within};
-ghost use Rattle.rule.specs.Places.{at, bit, each};
+ghost use Rattle.std.specs.Prelude.{◌≡◌, Bool, ℕ, ◌+◌, ◌-◌, ◌<◌, ◌≤◌, ltb, length, set, true, ◌&&◌};
+ghost use Rattle.rule.specs.Limits.{time_most, multiple_most, bounded_by};
+ghost use Rattle.rule.specs.Places.{at, bit, count, each};
+ghost use Rattle.rule.specs.Sets.{weight};
 ghost use Rattle.rule.specs.Task.{compare};
 ghost use Rattle.rule.specs.Slot.{goes_first};
 ghost use Rattle.rule.specs.Outcomes.{admission, slot as slot_of};
-ghost use Rattle.slot.specs.Rungs.{Choosing, Cut, rungs_within, on_contending, goes_before, rank_to, chosen_by, dealt_rungs};
+ghost use Rattle.standing.specs.declared.Rung.{Rung};
+ghost use Rattle.standing.specs.Judged.{rung_at};
+ghost use Rattle.slot.specs.Rungs.{Choosing, Cut, is_urgent, contends, urgent_to, contending_to, on_contending, goes_before, rank_to, chosen_by, dealt_rungs};
 ghost use Rattle.slot.specs.Deal.{dealt};
 
-use rule::{Accepted, Order, Refusal};
+use rule::{Accepted, Order, Refusal, Weight};
+use standing::Rung;
 
-// The rung of an urgent task.
-const URGENT: u8 = 4;
-
-// 1 where the place asked last runs, 0 where not; and of the contenders asked so far one that has room and one that has none. A place
-// past the list says that there is none such yet.
+// The lists of a field and the rungs of its places, at a time.
 #[derive(Clone, Copy)]
-struct Choice {
-    chosen: u8,
-    inside: usize,
-    outside: usize,
+struct Field<'a> {
+    requirements: &'a [u32],
+    periods: &'a [u32],
+    rungs: &'a [Rung],
+    t: u32,
+    ghost choosing: { Choosing requirements.now periods.now rungs.now t },
+}
+
+// Of the contenders asked so far one that has room and one that has none, where there are such.
+#[derive(Clone, Copy)]
+struct Known {
+    inside: Option<usize>,
+    outside: Option<usize>,
 }
 
 // Does the first task go before the second, of which `lower` says whether its place is the lower one?
-fn goes_first(e: u32, p: u32, e2: u32, p2: u32, t: u32, lower: bool) -> bool
-    requires first_bounded { bounded_by multiple_most e p ≡ true }
-    requires second_bounded { bounded_by multiple_most e2 p2 ≡ true }
+#[tactic(auto, using(crate::proofs::Laws::same_record, crate::proofs::Laws::engine_says))]
+fn goes_first(first: Weight, second: Weight, t: u32, lower: bool) -> bool
+    requires first_bounded { bounded_by multiple_most first.e first.p ≡ true }
+    requires second_bounded { bounded_by multiple_most second.e second.p ≡ true }
     requires t_le_time_most { t ≤ time_most }
-    ensures { result ≡ goes_first (compare t e p e2 p2) lower }
+    ensures { result ≡ goes_first (compare t first.e first.p second.e second.p) lower }
 {
     // Two tasks with the same record tie, however long their string.
-    if e == e2 {
-        if p == p2 {
-            return lower;
-        }
+    if first == second {
+        return lower;
     }
-    match order::plain(e, p, e2, p2, t) {
+    match order::plain(first, second, t) {
         Order::First => true,
         Order::Second => false,
         Order::Tie => lower,
     }
 }
 
-// 1 for a rung from `least` to `most`, 0 for another.
-fn on_rung(rung: u8, least: u8, most: u8) -> usize
-    ensures { result ≡ bit (within least most rung) }
+// The rung of an urgent task.
+fn is_urgent(rung: Rung) -> bool
+    ensures { result ≡ is_urgent rung }
 {
-    if rung < least {
-        return 0;
-    }
-    if rung <= most { 1 } else { 0 }
+    matches!(rung, Rung::Urgent)
 }
 
-// How many of the first n places have a rung from `least` to `most`.
-fn count_rungs(rungs: &[u8], n: usize, least: u8, most: u8) -> usize
-    requires { n ≤ length rungs.now }
-    ensures value { result ≡ rungs_within least most n rungs.now }
-    ensures few { result ≤ n }
+// The rungs of a contender.
+fn contends(rung: Rung) -> bool
+    ensures { result ≡ contends rung }
 {
-    let mut found: usize = 0;
-    let mut i = 0;
-    while i < n {
-        found += on_rung(rungs[i], least, most);
-        i += 1;
-    }
-    found
+    matches!(rung, Rung::Ahead | Rung::Punctual | Rung::Behind)
 }
 
-// 1 where place j contends and goes before place i, 0 otherwise.
-fn before(requirements: &[u32], periods: &[u32], rungs: &[u8], t: u32, j: usize, i: usize) -> usize
-    requires choosing { Choosing requirements.now periods.now rungs.now t }
-    requires j_in_bounds { (j < length requirements.now) × (i < length requirements.now) }
-    ensures { result ≡ bit (on_contending rungs.now j && goes_before requirements.now periods.now t j i) }
-{
-    if on_rung(rungs[j], 1, 3) == 0 {
-        return 0;
+impl Field<'_> {
+    // How many places have a rung that passes the test.
+    fn count_rungs<F: Fn(Rung) -> bool>(&self, test: F) -> usize
+        requires { F.IsAlwaysCallable test }
+        ensures { (passes : Rung → Bool) → ((rung : Rung) (b : Bool) → F.post test rung b → b ≡ passes rung) → result ≡ count (length self.now.requirements.now) (λ i. passes (rung_at self.now.rungs.now i)) }
+    {
+        let places = &self.rungs[..self.requirements.len()];
+        places.iter().filter(|rung| test(**rung)).count()
     }
-    if goes_first(
-        requirements[j],
-        periods[j],
-        requirements[i],
-        periods[i],
-        t,
-        j < i,
-    ) {
-        1
-    } else {
-        0
-    }
-}
 
-// Do fewer contenders go before place i than there is room for? Once the room is taken the rest of them is not asked.
-fn has_room(
-    requirements: &[u32],
-    periods: &[u32],
-    rungs: &[u8],
-    t: u32,
-    i: usize,
-    room: usize,
-) -> bool
-    requires choosing { Choosing requirements.now periods.now rungs.now t }
-    requires i_in_bounds { i < length requirements.now }
-    ensures { result ≡ ltb (rank_to (length requirements.now) requirements.now periods.now rungs.now t i) room }
-{
-    let size = requirements.len();
-    let mut found: usize = 0;
-    let mut j = 0;
-    while j < size {
-        if room <= found {
+    // The task, or the spare, at a place.
+    fn task(&self, place: usize) -> Weight
+        requires in_bounds { place < length self.now.requirements.now }
+        ensures { result ≡ weight (at self.now.requirements.now place) (at self.now.periods.now place) }
+    {
+        Weight {
+            e: self.requirements[place],
+            p: self.periods[place],
+        }
+    }
+
+    // Does place j contend and go before place i?
+    fn before(&self, j: usize, i: usize) -> bool
+        requires in_bounds { (j < length self.now.requirements.now) × (i < length self.now.requirements.now) }
+        ensures { let f = self.now in result ≡ (on_contending f.rungs.now j && goes_before f.requirements.now f.periods.now f.t j i) }
+    {
+        contends(self.rungs[j]) && goes_first(self.task(j), self.task(i), self.t, j < i)
+    }
+
+    // Do fewer contenders go before place i than there is room for? Once the room is taken the rest of them is not asked.
+    fn has_room(&self, i: usize, room: usize) -> bool
+        requires in_bounds { i < length self.now.requirements.now }
+        ensures { let f = self.now in result ≡ ltb (rank_to (length f.requirements.now) f.requirements.now f.periods.now f.rungs.now f.t i) room }
+    {
+        let mut found: usize = 0;
+        for j in 0..self.requirements.len() {
+            if room <= found {
+                return false;
+            }
+            if self.before(j, i) {
+                found += 1;
+            }
+        }
+        found < room
+    }
+
+    // Does a contender run? Who goes before one that has room has room too, and who goes after one that has none has none, so that the
+    // others are counted only for a place between the two.
+    #[tactic(auto, using(crate::proofs::Room::earlier))]
+    fn contender_runs(&self, i: usize, room: usize, known: &mut Known) -> bool
+        requires in_bounds { i < length self.now.requirements.now }
+        requires cut_known { let f = self.now in Cut f.requirements.now f.periods.now f.rungs.now f.t room known.old.inside known.old.outside }
+        ensures chosen { let f = self.now in result ≡ ltb (rank_to (length f.requirements.now) f.requirements.now f.periods.now f.rungs.now f.t i) room }
+        ensures cut { let f = self.now in Cut f.requirements.now f.periods.now f.rungs.now f.t room known.new.inside known.new.outside }
+    {
+        if let Some(inside) = known.inside {
+            if self.before(i, inside) {
+                return true;
+            }
+        }
+        if let Some(outside) = known.outside {
+            if self.before(outside, i) {
+                return false;
+            }
+        }
+        if self.has_room(i, room) {
+            known.inside = Some(i);
+            return true;
+        }
+        known.outside = Some(i);
+        false
+    }
+
+    // Does the slot run place i? Beside the urgent ones there is room for so many of the contenders.
+    #[tactic(auto, using(crate::proofs::Laws::rank_lt, crate::proofs::Laws::chosen_urgent, crate::proofs::Laws::chosen_neither, crate::proofs::Laws::chosen_contending))]
+    fn runs(&self, i: usize, room: usize, contending: usize, known: &mut Known) -> bool
+        requires in_bounds { i < length self.now.requirements.now }
+        requires contenders { contending ≡ contending_to (length self.now.requirements.now) self.now.rungs.now }
+        requires cut_known { let f = self.now in Cut f.requirements.now f.periods.now f.rungs.now f.t room known.old.inside known.old.outside }
+        ensures chosen { let f = self.now in result ≡ chosen_by (urgent_to (length f.requirements.now) f.rungs.now + room) f.requirements.now f.periods.now f.rungs.now f.t i }
+        ensures cut { let f = self.now in Cut f.requirements.now f.periods.now f.rungs.now f.t room known.new.inside known.new.outside }
+    {
+        let rung = self.rungs[i];
+        if is_urgent(rung) {
+            return true;
+        }
+        if !contends(rung) {
             return false;
         }
-        found += before(requirements, periods, rungs, t, j, i);
-        j += 1;
+        // Where all contenders have room, their order is of no matter.
+        if contending <= room {
+            return true;
+        }
+        self.contender_runs(i, room, known)
     }
-    found < room
-}
 
-// Does a contender run? Who goes before one that has room has room too, and who goes after one that has none has none, so that the
-// others are counted only for a place between the two.
-fn choice_of_contender(
-    requirements: &[u32],
-    periods: &[u32],
-    rungs: &[u8],
-    t: u32,
-    i: usize,
-    room: usize,
-    mut known: Choice,
-) -> Choice
-    requires choosing { Choosing requirements.now periods.now rungs.now t }
-    requires i_in_bounds { i < length requirements.now }
-    requires cut_known { Cut requirements.now periods.now rungs.now t room known.inside known.outside }
-    ensures chosen { result.chosen ≡ bit (ltb (rank_to (length requirements.now) requirements.now periods.now rungs.now t i) room) }
-    ensures cut { Cut requirements.now periods.now rungs.now t room result.inside result.outside }
-{
-    let size = requirements.len();
-    let inside = known.inside;
-    let outside = known.outside;
-    if inside < size {
-        if before(requirements, periods, rungs, t, i, inside) != 0 {
-            known.chosen = 1;
-            return known;
+    // Runs the tasks that the slot chooses: a byte for each, and 1 more in the count of each chosen one. The other counts are not stored.
+    fn choose(&self, room: usize, contending: usize, counts: &mut [u32], bytes: &mut [u8])
+        requires contenders { contending ≡ contending_to (length self.now.requirements.now) self.now.rungs.now }
+        requires lengths { (length counts.old ≤ length self.now.requirements.now) × (length bytes.old ≡ length counts.old) }
+        requires countable { (i : ℕ) → i < length counts.old → at counts.old i < 4294967295 }
+        ensures counts { let f = self.now in counts.new ≡ each (length counts.old) (λ i. at counts.old i + bit (chosen_by (urgent_to (length f.requirements.now) f.rungs.now + room) f.requirements.now f.periods.now f.rungs.now f.t i)) }
+        ensures bytes { let f = self.now in bytes.new ≡ each (length counts.old) (λ i. bit (chosen_by (urgent_to (length f.requirements.now) f.rungs.now + room) f.requirements.now f.periods.now f.rungs.now f.t i)) }
+    {
+        let mut known = Known {
+            inside: None,
+            outside: None,
+        };
+        for i in 0..counts.len() {
+            let runs = self.runs(i, room, contending, &mut known);
+            bytes[i] = u8::from(runs);
+            if runs {
+                counts[i] += 1;
+            }
         }
     }
-    if outside < size {
-        if before(requirements, periods, rungs, t, outside, i) != 0 {
-            known.chosen = 0;
-            return known;
+
+    // Refusal 9, or the choice.
+    fn deal(&self, units: usize, counts: &mut [u32], bytes: &mut [u8]) -> Result<(), Refusal>
+        requires lengths { (length counts.old ≤ length self.now.requirements.now) × (length bytes.old ≡ length counts.old) }
+        requires countable { (i : ℕ) → i < length counts.old → at counts.old i < 4294967295 }
+        ensures answer { let f = self.now in result ≡ (dealt_rungs units f.requirements.now f.periods.now f.rungs.now counts.old bytes.old f.t).answer }
+        ensures counts { let f = self.now in counts.new ≡ (dealt_rungs units f.requirements.now f.periods.now f.rungs.now counts.old bytes.old f.t).counts }
+        ensures bytes { let f = self.now in bytes.new ≡ (dealt_rungs units f.requirements.now f.periods.now f.rungs.now counts.old bytes.old f.t).bytes }
+    {
+        let urgent = self.count_rungs(is_urgent);
+        let contending = self.count_rungs(contends);
+        if units < urgent {
+            return Err(Refusal::Stuck);
         }
+        if urgent + contending < units {
+            return Err(Refusal::Stuck);
+        }
+        self.choose(units - urgent, contending, counts, bytes);
+        Ok(())
     }
-    if has_room(requirements, periods, rungs, t, i, room) {
-        known.chosen = 1;
-        known.inside = i;
-        return known;
-    }
-    known.chosen = 0;
-    known.outside = i;
-    known
-}
-
-// Does the slot run place i? Beside the urgent ones there is room for so many of the contenders.
-fn choice_at(
-    requirements: &[u32],
-    periods: &[u32],
-    rungs: &[u8],
-    t: u32,
-    i: usize,
-    room: usize,
-    contending: usize,
-    mut known: Choice,
-) -> Choice
-    requires choosing { Choosing requirements.now periods.now rungs.now t }
-    requires i_in_bounds { i < length requirements.now }
-    requires contenders { contending ≡ rungs_within 1 3 (length requirements.now) rungs.now }
-    requires cut_known { Cut requirements.now periods.now rungs.now t room known.inside known.outside }
-    ensures chosen { result.chosen ≡ bit (chosen_by (rungs_within 4 4 (length requirements.now) rungs.now + room) requirements.now periods.now rungs.now t i) }
-    ensures cut { Cut requirements.now periods.now rungs.now t room result.inside result.outside }
-{
-    let rung = rungs[i];
-    if rung == URGENT {
-        known.chosen = 1;
-        return known;
-    }
-    if on_rung(rung, 1, 3) == 0 {
-        known.chosen = 0;
-        return known;
-    }
-    // Where all contenders have room, their order is of no matter.
-    if contending <= room {
-        known.chosen = 1;
-        return known;
-    }
-    choice_of_contender(requirements, periods, rungs, t, i, room, known)
-}
-
-// Adds 1 to the count of a chosen place. Where `chosen` is 0 nothing is stored.
-fn raise(counts: &mut [u32], i: usize, chosen: u8)
-    requires i_in_bounds { (i < length counts.old) × (at counts.old i < 4294967295) }
-    requires chosen_bound { chosen ≤ 1 }
-    ensures { counts.new ≡ set counts.old i (at counts.old i + chosen) }
-{
-    if chosen == 0 {
-        return;
-    }
-    counts[i] = counts[i] + 1;
-}
-
-// Runs the tasks that the slot chooses: a byte for each, and 1 more in the count of each chosen one.
-fn choose(
-    requirements: &[u32],
-    periods: &[u32],
-    rungs: &[u8],
-    t: u32,
-    room: usize,
-    contending: usize,
-    counts: &mut [u32],
-    bytes: &mut [u8],
-)
-    requires choosing { Choosing requirements.now periods.now rungs.now t }
-    requires contenders { contending ≡ rungs_within 1 3 (length requirements.now) rungs.now }
-    requires lengths { (length counts.old ≤ length requirements.now) × (length bytes.old ≡ length counts.old) }
-    requires countable { (i : ℕ) → i < length counts.old → at counts.old i < 4294967295 }
-    ensures counts { counts.new ≡ each (length counts.old) (λ i. at counts.old i + bit (chosen_by (rungs_within 4 4 (length requirements.now) rungs.now + room) requirements.now periods.now rungs.now t i)) }
-    ensures bytes { bytes.new ≡ each (length counts.old) (λ i. bit (chosen_by (rungs_within 4 4 (length requirements.now) rungs.now + room) requirements.now periods.now rungs.now t i)) }
-{
-    let size = requirements.len();
-    let n = counts.len();
-    let mut known = Choice {
-        chosen: 0,
-        inside: size,
-        outside: size,
-    };
-    let mut i = 0;
-    while i < n {
-        known = choice_at(requirements, periods, rungs, t, i, room, contending, known);
-        let chosen = known.chosen;
-        bytes[i] = chosen;
-        raise(counts, i, chosen);
-        i += 1;
-    }
-}
-
-// Refusal 9, or the choice, of a field whose rungs are these.
-fn deal_judged(
-    units: usize,
-    requirements: &[u32],
-    periods: &[u32],
-    rungs: &[u8],
-    counts: &mut [u32],
-    bytes: &mut [u8],
-    t: u32,
-) -> Result<(), Refusal>
-    requires choosing { Choosing requirements.now periods.now rungs.now t }
-    requires lengths { (length counts.old ≤ length requirements.now) × (length bytes.old ≡ length counts.old) }
-    requires countable { (i : ℕ) → i < length counts.old → at counts.old i < 4294967295 }
-    ensures answer { result ≡ (dealt_rungs units requirements.now periods.now rungs.now counts.old bytes.old t).answer }
-    ensures counts { counts.new ≡ (dealt_rungs units requirements.now periods.now rungs.now counts.old bytes.old t).counts }
-    ensures bytes { bytes.new ≡ (dealt_rungs units requirements.now periods.now rungs.now counts.old bytes.old t).bytes }
-{
-    let size = requirements.len();
-    let urgent = count_rungs(rungs, size, URGENT, URGENT);
-    let contending = count_rungs(rungs, size, 1, 3);
-    if units < urgent {
-        return Err(Refusal::Stuck);
-    }
-    if urgent + contending < units {
-        return Err(Refusal::Stuck);
-    }
-    choose(
-        requirements,
-        periods,
-        rungs,
-        t,
-        units - urgent,
-        contending,
-        counts,
-        bytes,
-    );
-    Ok(())
 }
 
 // One slot of a field that is laid out, M given: the requirements and the periods have the spare's last, if there is one.
@@ -297,21 +220,14 @@ pub fn deal(
     if bytes.len() != counts.len() {
         return Err(Refusal::Lengths);
     }
-    let judged = standing::judge(units, requirements, periods, counts, t);
-    let outcome = judged.outcome;
-    if let Err(refusal) = outcome {
-        return Err(refusal);
-    }
-    let rungs = judged.rungs;
-    deal_judged(
-        units as usize,
+    let rungs = standing::judge(units, requirements, periods, counts, t)?;
+    let field = Field {
         requirements,
         periods,
-        &rungs,
-        counts,
-        bytes,
+        rungs: &rungs,
         t,
-    )
+    };
+    field.deal(units as usize, counts, bytes)
 }
 
 // One slot of a set that admission accepts.
@@ -332,10 +248,14 @@ fn deal_accepted(
 {
     let spare = accepted.spare;
     let laid = field::lay_out(requirements, periods, spare);
-    let size = laid.size;
-    let es = laid.requirements;
-    let ps = laid.periods;
-    deal(accepted.units, &es[..size], &ps[..size], counts, bytes, t)
+    deal(
+        accepted.units,
+        laid.requirements(),
+        laid.periods(),
+        counts,
+        bytes,
+        t,
+    )
 }
 
 // One slot of a set on m units at time t: refusals 1 to 9, or the choice in the counts and in a byte for each task.

@@ -10,6 +10,7 @@ use borrow.Author.Tests.{ltb-true}
 use Rattle.rule.specs.declared.Standing.TheVariants.{Ahead, Punctual, Behind}
 use Rattle.rule.specs.Task.{Entry, lag, sign, standing_of, standing, fair}
 use Rattle.rule.proofs.Lags.{counted, fair_bounds, tnegru_by_lag, urgent_by_lag}
+use Rattle.standing.specs.declared.Rung.TheVariants.{Tnegru, Urgent}
 use Rattle.standing.specs.Judged.{between, rung}
 use Rattle.standing.specs.Sound.{Small}
 
@@ -42,12 +43,12 @@ module _ (t : ℕ) (x : Entry) where
 -- ---- the rung by the next lag
 
 module _ (e p k t : ℕ) (small : Small e p k t) (within : fair t (counted e p k) ≡ true) where
-  pub rung_tnegru : le_z (lag (suc t) (counted e p k)) (pos 0) ≡ true → rung t (counted e p k) ≡ 0
+  pub rung_tnegru : le_z (lag (suc t) (counted e p k)) (pos 0) ≡ true → rung t (counted e p k) ≡ Tnegru
   unfolding rung
   rung_tnegru h = rw (tnegru_by_lag e p k t small.some small.light (fair_bounds e p k t within), h)
 
   module _ (above : le_z (lag (suc t) (counted e p k)) (pos 0) ≡ false) where
-    pub rung_urgent : le_z (pos p) (lag (suc t) (counted e p k)) ≡ true → rung t (counted e p k) ≡ 4
+    pub rung_urgent : le_z (pos p) (lag (suc t) (counted e p k)) ≡ true → rung t (counted e p k) ≡ Urgent
     unfolding rung
     rung_urgent h =
         let b = fair_bounds e p k t within in

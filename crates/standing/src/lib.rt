@@ -2,70 +2,98 @@
 // field is refused before that, by the numbers 1 to 4.
 #![tactic(auto)]
 
-ghost use Rattle.std.specs.Prelude.{true, not, cond, ◌≡◌, ℕ, ◌*◌, ◌<◌, ◌≤◌, ◌^◌, ltb, length};
-ghost use Rattle.rule.specs.Limits.{tasks_most, units_most};
-ghost use Rattle.rule.specs.Places.{at, sum, lowest, each};
+ghost use Rattle.std.specs.Prelude.{true, not, position, zip, cond, map, ◌≡◌, ℕ, suc, ◌*◌, ◌<◌, ◌≤◌, ◌^◌, ltb, length};
+ghost use Rattle.std.specs.List.{range_with_len};
+ghost use Rattle.rule.specs.Limits.{bounded_by, multiple_most, tasks_most, units_most};
+ghost use Rattle.rule.specs.Places.{at, sum, lowest, found};
 ghost use Rattle.rule.specs.Sets.{task_at};
 ghost use Rattle.rule.specs.Task.{lag as lag_of, fair};
 ghost use Rattle.rule.proofs.Lags.{counted};
 ghost use Rattle.standing.specs.Judged.{rung, rungs_of, judged};
-ghost use Rattle.standing.specs.Laid.{is_laid_out, laid_entry, laid_unfair, laid_unfair_place, wild_place};
+ghost use Rattle.standing.specs.Laid.{is_laid_out, laid_entry, laid_unfair, laid_unfair_place};
 ghost use Rattle.standing.specs.Sound.{Small, Sound};
 
 use rule::Refusal;
 
-// The answer of a judge. A rung is 0 for tnegru, 1 for ahead and not tnegru, 2 for punctual, 3 for behind and not urgent,
-// 4 for urgent.
-#[derive(Drop)]
-pub struct Judged {
-    pub outcome: Result<(), Refusal>,
-    pub rungs: [u8; 65],
+// How a place stands and of which class it is, from the most ahead to the most behind.
+#[derive(Clone, Copy, PartialEq, Eq)]
+pub enum Rung {
+    // Ahead, and one slot more would put it out of bounds.
+    Tnegru,
+    // Ahead and not tnegru.
+    Ahead,
+    Punctual,
+    // Behind and not urgent.
+    Behind,
+    // Behind, and without this slot out of bounds.
+    Urgent,
+}
+
+// The lists of a field that refusals 1 to 7 pass, and M in use, at a time.
+#[derive(Clone, Copy)]
+struct Field<'a> {
+    units: u32,
+    requirements: &'a [u32],
+    periods: &'a [u32],
+    counts: &'a [u32],
+    t: u32,
+    ghost few_units: { units ≤ units_most },
+    ghost sound: { Sound requirements.now periods.now counts.now t },
+}
+
+// A task within its limits, with a count that is a u32, at a time of the calendar.
+#[derive(Clone, Copy)]
+struct Task {
+    e: u32,
+    p: u32,
+    k: u64,
+    t: u32,
+    ghost small: { Small e p k t },
 }
 
 // The rung of every place of a field at t, M in use, or the first refusal that holds.
-pub fn judge(units: u32, requirements: &[u32], periods: &[u32], counts: &[u32], t: u32) -> Judged
+pub fn judge(
+    units: u32,
+    requirements: &[u32],
+    periods: &[u32],
+    counts: &[u32],
+    t: u32,
+) -> Result<[Rung; 65], Refusal>
     ensures { result ≡ judged units requirements.now periods.now counts.now t }
 {
     if !laid_out(requirements, periods, counts) {
-        return refuse(Refusal::Lengths);
+        return Err(Refusal::Lengths);
     }
     let n = counts.len();
     if n == 0 || n > rule::TASKS_MOST {
-        return refuse(Refusal::Tasks);
+        return Err(Refusal::Tasks);
     }
     if units > rule::UNITS_MOST {
-        return refuse(Refusal::Units);
+        return Err(Refusal::Units);
     }
-    let wild = wild_place(requirements, periods);
-    if wild < requirements.len() {
-        return refuse(Refusal::Record { place: wild as u32 });
+    if let Some(wild) = rule::outside_place(requirements, periods, rule::MULTIPLE_MOST) {
+        return Err(Refusal::Record { place: wild as u32 });
     }
     if t > rule::TIME_MOST {
-        return refuse(Refusal::Time);
+        return Err(Refusal::Time);
     }
-    let unfair = unfair_place(units, requirements, periods, counts, t);
-    if unfair <= n {
-        return refuse(Refusal::Lag {
+    let field = Field {
+        units,
+        requirements,
+        periods,
+        counts,
+        t,
+    };
+    if let Some(unfair) = field.unfair_place() {
+        return Err(Refusal::Lag {
             place: unfair as u32,
         });
     }
-    Judged {
-        outcome: Ok(()),
-        rungs: rungs_of(units, requirements, periods, counts, t),
-    }
-}
-
-// A refusal, with no rung.
-fn refuse(refusal: Refusal) -> Judged
-    ensures { result ≡ record { outcome = Err refusal; rungs = each 65 (λ i. 0) } }
-{
-    Judged {
-        outcome: Err(refusal),
-        rungs: [0; 65],
-    }
+    Ok(field.rungs())
 }
 
 // Are these the lists of a field?
+#[tactic(auto, unfolding(crate::specs::Laid::is_laid_out))]
 fn laid_out(requirements: &[u32], periods: &[u32], counts: &[u32]) -> bool
     ensures { result ≡ is_laid_out requirements.now periods.now counts.now }
 {
@@ -77,73 +105,92 @@ fn laid_out(requirements: &[u32], periods: &[u32], counts: &[u32]) -> bool
     size == n || size == n + 1
 }
 
-// The lowest place whose record no task and no spare can have; the size of the field where there is none.
-fn wild_place(requirements: &[u32], periods: &[u32]) -> usize
-    requires { length periods.now ≡ length requirements.now }
-    ensures { result ≡ wild_place requirements.now periods.now }
-{
-    let size = requirements.len();
-    let mut i = 0;
-    while i < size {
-        if !rule::bounded(rule::MULTIPLE_MOST, requirements[i], periods[i]) {
-            return i;
+impl Field<'_> {
+    // The task, or the spare, at a place, with this count.
+    fn task(&self, place: usize, count: u64) -> Task
+        requires in_bounds { place < length self.now.requirements.now }
+        requires narrow { count ≤ 4294967295 }
+        ensures entry { let f = self.now in counted result.e result.p result.k ≡ counted (at f.requirements.now place) (at f.periods.now place) count }
+        ensures time { result.t ≡ self.now.t }
+    {
+        Task {
+            e: self.requirements[place],
+            p: self.periods[place],
+            k: count,
+            t: self.t,
         }
-        i += 1;
     }
-    size
-}
 
-// The lowest place whose lag is out of bounds, n for the spare or the sum; n + 1 where there is none.
-fn unfair_place(units: u32, requirements: &[u32], periods: &[u32], counts: &[u32], t: u32) -> usize
-    requires units_le_units_most { units ≤ units_most }
-    requires sound { Sound requirements.now periods.now counts.now t }
-    ensures { result ≡ laid_unfair_place units requirements.now periods.now counts.now t }
-{
-    let n = counts.len();
-    let place = unfair_task(requirements, periods, counts, t);
-    if place < n {
-        return place;
-    }
-    if adds_up(units, requirements, periods, counts, t) {
-        n + 1
-    } else {
-        n
-    }
-}
-
-// The lowest place of a task whose lag is out of bounds; n where there is none.
-fn unfair_task(requirements: &[u32], periods: &[u32], counts: &[u32], t: u32) -> usize
-    requires { Sound requirements.now periods.now counts.now t }
-    ensures { result ≡ lowest (length counts.now) (λ i. not (fair t (task_at requirements.now periods.now counts.now i))) }
-{
-    let n = counts.len();
-    let mut i = 0;
-    while i < n {
-        if !is_fair(requirements[i], periods[i], counts[i] as u64, t) {
-            return i;
+    // The lowest place whose lag is out of bounds; place n is the spare's, or the sum's.
+    fn unfair_place(&self) -> Option<usize>
+        ensures { let f = self.now in result ≡ found (suc (length f.counts.now)) (laid_unfair_place f.units f.requirements.now f.periods.now f.counts.now f.t) }
+    {
+        if let Some(task) = self.unfair_task() {
+            return Some(task);
         }
-        i += 1;
+        if self.adds_up() {
+            None
+        } else {
+            Some(self.counts.len())
+        }
     }
-    n
-}
 
-// Is the spare's lag within its bounds, or where there is no spare, do the counts add up to M·t?
-fn adds_up(units: u32, requirements: &[u32], periods: &[u32], counts: &[u32], t: u32) -> bool
-    requires units_le_units_most { units ≤ units_most }
-    requires sound { Sound requirements.now periods.now counts.now t }
-    ensures { result ≡ not (laid_unfair units requirements.now periods.now counts.now t (length counts.now)) }
-{
-    let n = counts.len();
-    let given = (units as u64) * (t as u64);
-    let others = sum_of(counts);
-    if requirements.len() == n {
-        return others == given;
+    // The lowest place of a task whose lag is out of bounds.
+    fn unfair_task(&self) -> Option<usize>
+        ensures { let f = self.now in result ≡ found (length f.counts.now) (lowest (length f.counts.now) (λ i. not (fair f.t (task_at f.requirements.now f.periods.now f.counts.now i)))) }
+    {
+        for (i, &k) in self.counts.iter().enumerate() {
+            if !self.task(i, u64::from(k)).is_fair() {
+                return Some(i);
+            }
+        }
+        None
     }
-    // The spare's count would be below zero, which is out of bounds.
-    if others > given {
-        return false;
+
+    // Is the spare's lag within its bounds, or where there is no spare, do the counts add up to M·t?
+    fn adds_up(&self) -> bool
+        ensures { let f = self.now in result ≡ not (laid_unfair f.units f.requirements.now f.periods.now f.counts.now f.t (length f.counts.now)) }
+    {
+        let n = self.counts.len();
+        let given = u64::from(self.units) * u64::from(self.t);
+        let others = sum_of(self.counts);
+        if self.requirements.len() == n {
+            return others == given;
+        }
+        // The spare's count would be below zero, which is out of bounds.
+        if others > given {
+            return false;
+        }
+        self.task(n, given - others).is_fair()
     }
-    is_fair(requirements[n], periods[n], given - others, t)
+
+    // The rungs of all places of a field whose lags are within their bounds.
+    fn rungs(&self) -> [Rung; 65]
+        requires each_fair { let f = self.now in (i : ℕ) → i < length f.requirements.now → fair f.t (laid_entry f.units f.requirements.now f.periods.now f.counts.now f.t i) ≡ true }
+        ensures { let f = self.now in result ≡ rungs_of f.units f.requirements.now f.periods.now f.counts.now f.t }
+    {
+        let n = self.counts.len();
+        let mut rungs = self.task_rungs();
+        if self.requirements.len() == n {
+            return rungs;
+        }
+        let given = u64::from(self.units) * u64::from(self.t);
+        let others = sum_of(self.counts);
+        rungs[n] = self.task(n, given - others).rung();
+        rungs
+    }
+
+    // The rungs of the tasks, and Tnegru past them.
+    fn task_rungs(&self) -> [Rung; 65]
+        requires each_fair { let f = self.now in (i : ℕ) → i < length f.counts.now → fair f.t (task_at f.requirements.now f.periods.now f.counts.now i) ≡ true }
+        ensures { let f = self.now in result ≡ map (λ i. cond (ltb i (length f.counts.now)) (rung f.t (task_at f.requirements.now f.periods.now f.counts.now i)) Rung.Tnegru) (range_with_len 0 65) }
+    {
+        let mut rungs = [Rung::Tnegru; 65];
+        for (i, &k) in self.counts.iter().enumerate() {
+            rungs[i] = self.task(i, u64::from(k)).rung();
+        }
+        rungs
+    }
 }
 
 // The sum of the counts.
@@ -151,90 +198,49 @@ fn sum_of(counts: &[u32]) -> u64
     requires { length counts.now ≤ tasks_most }
     ensures { result ≡ sum (length counts.now) (at counts.now) }
 {
-    let n = counts.len();
-    let mut total: u64 = 0;
-    let mut i = 0;
-    while i < n {
-        total += counts[i] as u64;
-        i += 1;
-    }
-    total
+    counts.iter().map(|k| u64::from(*k)).sum()
 }
 
-// The rungs of all places of a field whose lags are within their bounds.
-fn rungs_of(units: u32, requirements: &[u32], periods: &[u32], counts: &[u32], t: u32) -> [u8; 65]
-    requires units_le_units_most { units ≤ units_most }
-    requires sound { Sound requirements.now periods.now counts.now t }
-    requires each_fair { (i : ℕ) → i < length requirements.now → fair t (laid_entry units requirements.now periods.now counts.now t i) ≡ true }
-    ensures { result ≡ rungs_of units requirements.now periods.now counts.now t }
-{
-    let n = counts.len();
-    let mut rungs = task_rungs(requirements, periods, counts, t);
-    if requirements.len() == n {
-        return rungs;
+impl Task {
+    // The rung, by the lag and the next one.
+    fn rung(&self) -> Rung
+        requires { let x = self.now in fair x.t (counted x.e x.p x.k) ≡ true }
+        ensures { let x = self.now in result ≡ rung x.t (counted x.e x.p x.k) }
+    {
+        let next = self.lag(self.t + 1);
+        if next <= 0 {
+            return Rung::Tnegru;
+        }
+        if next >= self.p as i64 {
+            return Rung::Urgent;
+        }
+        let lag = self.lag(self.t);
+        if lag < 0 {
+            Rung::Ahead
+        } else if lag == 0 {
+            Rung::Punctual
+        } else {
+            Rung::Behind
+        }
     }
-    let given = (units as u64) * (t as u64);
-    let others = sum_of(counts);
-    rungs[n] = rung_of(requirements[n], periods[n], given - others, t);
-    rungs
-}
 
-// The rungs of the tasks, and 0 past them.
-fn task_rungs(requirements: &[u32], periods: &[u32], counts: &[u32], t: u32) -> [u8; 65]
-    requires sound { Sound requirements.now periods.now counts.now t }
-    requires each_fair { (i : ℕ) → i < length counts.now → fair t (task_at requirements.now periods.now counts.now i) ≡ true }
-    ensures { result ≡ each 65 (λ i. cond (ltb i (length counts.now)) (rung t (task_at requirements.now periods.now counts.now i)) 0) }
-{
-    let n = counts.len();
-    let mut rungs: [u8; 65] = [0; 65];
-    let mut i = 0;
-    while i < n {
-        rungs[i] = rung_of(requirements[i], periods[i], counts[i] as u64, t);
-        i += 1;
+    // Is the lag times period strictly between -p and p?
+    fn is_fair(&self) -> bool
+        ensures { let x = self.now in result ≡ fair x.t (counted x.e x.p x.k) }
+    {
+        let lag = self.lag(self.t);
+        let period = self.p as i64;
+        -period < lag && lag < period
     }
-    rungs
-}
 
-// The rung of a task at t, by its lag and the next one.
-fn rung_of(e: u32, p: u32, k: u64, t: u32) -> u8
-    requires small { Small e p k t }
-    requires fair { fair t (counted e p k) ≡ true }
-    ensures { result ≡ rung t (counted e p k) }
-{
-    let next = lag(e, p, k, t + 1);
-    if next <= 0 {
-        return 0;
+    // The lag times period at a time, e·t - p·k.
+    fn lag(&self, t: u32) -> i64
+        requires t_bound { self.now.e * t < 2 ^ 63 }
+        requires k_bound { self.now.p * self.now.k < 2 ^ 63 }
+        ensures { let x = self.now in result ≡ lag_of t (counted x.e x.p x.k) }
+    {
+        let due = u64::from(self.e) * u64::from(t);
+        let done = u64::from(self.p) * self.k;
+        (due as i64) - (done as i64)
     }
-    if next >= p as i64 {
-        return 4;
-    }
-    let lag = lag(e, p, k, t);
-    if lag < 0 {
-        1
-    } else if lag == 0 {
-        2
-    } else {
-        3
-    }
-}
-
-// Is the lag times period strictly between -p and p?
-fn is_fair(e: u32, p: u32, k: u64, t: u32) -> bool
-    requires { Small e p k t }
-    ensures { result ≡ fair t (counted e p k) }
-{
-    let lag = lag(e, p, k, t);
-    let period = p as i64;
-    -period < lag && lag < period
-}
-
-// The lag times period, e·t - p·k.
-fn lag(e: u32, p: u32, k: u64, t: u32) -> i64
-    requires t_bound { e * t < 2 ^ 63 }
-    requires k_bound { p * k < 2 ^ 63 }
-    ensures { result ≡ lag_of t (counted e p k) }
-{
-    let due = (e as u64) * (t as u64);
-    let done = (p as u64) * k;
-    (due as i64) - (done as i64)
 }

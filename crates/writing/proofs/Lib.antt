@@ -1,3 +1,3 @@
 pub mod Sizes
-pub mod Lines
 pub mod Texts
+pub mod Writes

@@ -6,7 +6,9 @@ use mathlib.Core.List.{List, [], ◌∷◌, ◌++◌}
 use Prim.Native.Nat.{ℕ, zero, suc, ◌+◌, ◌*◌, ◌≤◌}
 use native.Mathlib.Omega.{arith}
 use lib.Dec.{eqb}
-use lib.ListN.{length, take, drop, length-append}
+use lib.ListN.{length, take, drop, length-append, length-take}
+use Rattle.std.specs.List.{count_by}
+use Rattle.std.proofs.lemmas.List.Sums.{sum_by-cons, count_by-le-length}
 use Rattle.rule.specs.declared.Weight.{Weight}
 use Rattle.rule.specs.declared.Accepted.{Accepted}
 use Rattle.rule.specs.declared.Refusal.{Refusal}
@@ -29,6 +31,11 @@ pub length_malformed : length malformed_line ≡ 7
 unfolding malformed_line line_of digits_of
 length_malformed = refl
 
+pub length_spare : (spare : Option Weight) → length (spare_bytes spare) ≡ 8
+unfolding spare_bytes field
+length_spare None = refl
+length_spare (Some w) = refl
+
 pub length_accepted : (a : Accepted) → length (accepted_line a) ≡ 29
 unfolding accepted_line line_of digits_of field spare_bytes
 length_accepted a = go a.spare
@@ -39,30 +46,24 @@ length_accepted a = go a.spare
 
 -- ---- a run
 
-pub places_few : (i : ℕ) (bs : List ℕ) → length (places_from i bs) ≤ length bs
+pub length_places : (i : ℕ) (bytes : List ℕ) → length (places_from i bytes) ≡ count_by (λ b. eqb b 1) bytes
 unfolding places_from
-places_few i [] = omega arith
-places_few i (b ∷ bs) = go (eqb b 1) (places_few (suc i) bs)
+length_places i [] = refl
+length_places i (b ∷ bytes) = rw (sum_by-cons (λ x. cond (eqb x 1) 1 0) b bytes) (go (eqb b 1) (length_places (suc i) bytes))
   where
-    go : (t : Bool) → length (places_from (suc i) bs) ≤ length bs
-        → length (cond t (i ∷ places_from (suc i) bs) (places_from (suc i) bs)) ≤ suc (length bs)
-    go true few = omega arith
-    go false few = omega arith
+    go : {n : ℕ} (t : Bool) → let rest = places_from (suc i) bytes in length rest ≡ n → length (cond t (i ∷ rest) rest) ≡ cond t 1 0 + n
+    go true same = omega arith
+    go false same = omega arith
+
+pub places_few : (i : ℕ) (bytes : List ℕ) → length (places_from i bytes) ≤ length bytes
+places_few i bytes = rw (length_places i bytes) (count_by-le-length (λ b. eqb b 1) bytes)
 
 pub take_few : (n : ℕ) (l : List ℕ) → length (take n l) ≤ n
-take_few zero l = omega arith
-take_few (suc n) [] = omega arith
-take_few (suc n) (x ∷ l) = let few = take_few n l in omega arith
+take_few n l = simp length-take (omega arith)
 
 pub slot_small : (t : ℕ) (bytes : List ℕ) → length bytes ≤ 64 → length (slot_line t bytes) ≤ 141
-unfolding slot_line
-slot_small t bytes h =
-    let ran = places_from 0 bytes in
-    let few = places_few 0 bytes in
-    let all = length_line (0x82 ∷ field 4 t ++ length ran ∷ ran) in
-    let four = length_field 4 t in
-    let parts = length-append (field 4 t) (length ran ∷ ran) in
-    omega arith
+unfolding slot_line field
+slot_small t bytes h = let few = places_few 0 bytes in simp length_line (omega arith)
 
 pub slots_small : (s n t : ℕ) (log : List ℕ) → n ≤ 64 → length (slot_lines s n t log) ≤ s * 141
 unfolding slot_lines
@@ -77,3 +78,6 @@ pub end_small : (end : Result Unit Refusal) → length (end_line end) ≤ 7
 unfolding end_line
 end_small (Ok tt) = omega arith
 end_small (Err r) = let seven = length_refusal r in omega arith
+
+-- What the bounds on a writer's place need.
+pub ruleset sizes = (length-take, length_digits, length_field, length_spare, places_few, slots_small)

@@ -21,8 +21,11 @@ place_byte nothing = 0xff
 place_byte (place i) = i
 place_byte (excess x) = 0xff
 
+abbrev pub refusal_by : (number named : ℕ) → List ℕ
+refusal_by number named = line_of (0x8f ∷ field 1 number ++ field 1 named)
+
 unfoldable pub refusal_line : Refusal → List ℕ
-refusal_line r = line_of (0x8f ∷ field 1 (number_of r) ++ field 1 (place_byte (carried_by r)))
+refusal_line r = refusal_by (number_of r) (place_byte (carried_by r))
 
 -- Refusal 11
 unfoldable pub malformed_line : List ℕ

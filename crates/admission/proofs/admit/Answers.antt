@@ -1,8 +1,7 @@
 -- Each test is one check of the list, in its order; on each way out the checks passed so far do not hold.
 use Rattle.std.specs.Prelude.{Err}
-use mathlib.Core.Path.{◌≡◌, sym, ap, ◌∙◌}
+use mathlib.Core.Path.{sym, ap, ◌∙◌}
 use mathlib.Core.Logic.{⊎_elim, inl, inr}
-use Prim.Native.Nat.{◌≤◌}
 use native.Mathlib.Omega.{arith}
 use borrow.Author.Tests.{lt-ltb, ltb-false}
 use lib.ListN.{length}
@@ -10,8 +9,8 @@ use Rattle.rule.specs.declared.Refusal.TheVariants.{Record}
 use Rattle.rule.specs.Limits.{tasks_most, units_most}
 use Rattle.rule.specs.Refusals.{invalid_place, admission_checks, set_checks}
 use Rattle.rule.proofs.Refusals.{this, next, admission_refusal}
-use Rattle.rule.proofs.Sets.{valid_set, invalid_place_le}
-use Rattle.admission.proofs.Laws.{inside, outside, same_lengths, other_lengths, admission_when_valid}
+use Rattle.rule.proofs.Sets.{valid_set}
+use Rattle.admission.proofs.Laws.{inside, outside, same_lengths, other_lengths, invalid_some, invalid_never, admission_when_valid}
 use Rattle.admission.proofs.admit.Goals as goal
 
 pub returns-then-periods-n : goal.returns-then-periods-n
@@ -44,30 +43,30 @@ returns-then-m-eq0 c =
     (next (inside 1 tasks_most (length es) (omega arith) (omega (arith, ltb-false))) (this beyond))))
 
 pub overflow_cast-result : goal.overflow_cast-result
-overflow_cast-result c = omega (arith, ltb-false)
+overflow_cast-result c =
+    let low = invalid_some _ _ (omega arith) c.in-Some.place (sym c.outside_place.ensures ∙ c.in-Some.is) in
+    omega (arith, ltb-false)
 
-pub returns-then-place-n : goal.returns-then-place-n
+pub returns-in-Some : goal.returns-in-Some
 unfolding admission_checks set_checks
-returns-then-place-n c =
+returns-in-Some c =
     let s = c.args in
     let es = s.requirements.now in
     let ps = s.periods.now in
-    let e = c.invalid_place-place.ensures in
-    let low = rw e at c.if-place-n.true in
-    ap (λ place. Err (Record place)) e
+    let low = invalid_some es ps (omega arith) c.in-Some.place (sym c.outside_place.ensures ∙ c.in-Some.is) in
+    ap (λ place. Err (Record place)) low.1
     ∙ sym
     ((admission_refusal es ps s.m _).1
     (next (same_lengths (length es) (length ps) (omega arith))
     (next (inside 1 tasks_most (length es) (omega arith) (omega (arith, ltb-false)))
-    (next (inside 1 units_most s.m (omega arith) (omega (arith, ltb-false))) (this (lt-ltb (invalid_place es ps) (length es) low))))))
+    (next (inside 1 units_most s.m (omega arith) (omega (arith, ltb-false))) (this (lt-ltb (invalid_place es ps) (length es) low.0))))))
 
 pub admit_valid-requires : goal.admit_valid-requires
 admit_valid-requires c =
     let s = c.args in
     let es = s.requirements.now in
     let ps = s.periods.now in
-    let e = c.invalid_place-place.ensures in
-    let all : invalid_place es ps ≡ length es = omega (arith, invalid_place_le es ps) in
+    let all = invalid_never es ps (omega arith) (sym c.outside_place.ensures ∙ c.in_default.is) in
     record {
       valid_set = valid_set es ps (omega arith) (omega arith) (omega (arith, ltb-false)) all;
       m_le_units_most = omega (arith, ltb-false);
@@ -78,7 +77,6 @@ returns c =
     let s = c.args in
     let es = s.requirements.now in
     let ps = s.periods.now in
-    let e = c.invalid_place-place.ensures in
-    let all : length es ≤ invalid_place es ps = omega arith in
+    let all = invalid_never es ps (omega arith) (sym c.outside_place.ensures ∙ c.in_default.is) in
     c.admit_valid.ensures
-    ∙ sym (admission_when_valid es ps s.m (omega arith) (omega arith) (omega (arith, ltb-false)) (omega arith) (omega (arith, ltb-false)) all)
+    ∙ sym (admission_when_valid es ps s.m (omega arith) (omega arith) (omega (arith, ltb-false)) (omega arith) (omega (arith, ltb-false)) (omega arith))

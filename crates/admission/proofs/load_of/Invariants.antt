@@ -1,7 +1,6 @@
--- The loop's invariant: `load` is the sum of the shares before place i, each at most L, so 64 of them fit a u32. The measure is what is left
--- of the list.
+-- The loop's invariant: `load` is the sum of the shares before place i, each at most L, so 64 of them fit a u32.
 use mathlib.Core.Path.{◌≡◌}
-use Prim.Native.Nat.{◌*◌, ◌/◌, ◌-◌, ◌≤◌}
+use Prim.Native.Nat.{◌*◌, ◌/◌, ◌≤◌}
 use Rattle.rule.specs.Limits.{multiple_most}
 use Rattle.rule.specs.Places.{at, sum}
 use Rattle.rule.specs.Sets.{multiple as multiple_of}
@@ -9,7 +8,4 @@ use Rattle.admission.proofs.load_of.Given as goal
 
 abbrev pub invariant-loop-i : goal.invariant-loop-i
 invariant-loop-i l =
-    (l.i ≤ l.n) × (l.load ≤ multiple_most * l.i) × (l.load ≡ sum l.i (λ j. at l.requirements j * multiple_of l.periods / at l.periods j))
-
-abbrev pub decreases-loop-i : goal.decreases-loop-i
-decreases-loop-i l = l.n - l.i
+    (l.load ≤ multiple_most * l.i) × (l.load ≡ sum l.i (λ j. at l.requirements j * multiple_of l.periods / at l.periods j))

@@ -1,7 +1,6 @@
-use mathlib.Core.Path.{◌≡◌, refl, sym, ◌∙◌}
+use mathlib.Core.Path.{◌≡◌, sym, ◌∙◌}
 use Prim.Native.Nat.{suc, ◌-◌}
 use native.Mathlib.Omega.{arith}
-use borrow.Author.Rules.{rules}
 use Rattle.digits.specs.Digits.{digits_of}
 use Rattle.digits.specs.Fields.{field}
 use Rattle.digits.proofs.Fields.{field_stored}
@@ -13,19 +12,16 @@ returns-then-at-out c =
     let a = c.args in
     sym (sets_out _ _ (digits_of (field a.width a.value)) c.if-at-out.true)
 
-pub loop-left-init : goal.loop-left-init
-loop-left-init c = (search rules, search rules, refl)
-
-pub loop-left-preserved : goal.loop-left-preserved
-loop-left-preserved c =
-    let a = c.args in
-    let w = c.loop-left.left - 1 in
-    let more : suc w ≡ c.loop-left.left = omega arith in
-    let next = field_stored c.loop-left.out c.loop-left.place w a.value in
-    (search rules, search rules, rw (c.put_byte.ensures, c.byte_of.ensures) (next ∙ rw more c.loop-left.invariant.2))
+pub loop-after-preserved : goal.loop-after-preserved
+loop-after-preserved c =
+    let l = c.loop-after in
+    let w = l.after - 1 in
+    let more : suc w ≡ l.after = omega arith in
+    let next = field_stored l.out l.place w c.args.value in
+    record { place = omega arith; stored = rw (c.put_byte.ensures, c.byte_of.ensures) (next ∙ rw more l.invariant.stored) }
 
 pub returns : goal.returns
 unfolding digits_of field
 returns c =
-    let none : c.loop-left.left ≡ 0 = omega arith in
-    rw none at c.loop-left.invariant.2
+    let none : c.loop-after.after ≡ 0 = omega arith in
+    rw none at c.loop-after.invariant.stored

@@ -1,26 +1,18 @@
-use mathlib.Core.Path.{◌≡◌, ◌∙◌}
-use native.Mathlib.Numerals.{add-one}
+use mathlib.Core.Path.{◌≡◌, ap, ◌∙◌}
 use native.Mathlib.Omega.{arith}
-use borrow.Author.Rules.{rules}
-use lib.ListN.{length, length-set}
-use Rattle.rule.proofs.Written.{written_none, written_set, written_all}
-use Rattle.listing.specs.Marks.{marks_by}
-use Rattle.listing.proofs.write_marks.Invariants.{marked}
+use lib.ListN.{length}
+use Rattle.rule.specs.Places.{each}
+use Rattle.rule.proofs.Written.{written_none, written_rest}
+use Rattle.standing.specs.Judged.{rung_at}
+use Rattle.listing.specs.Marks.{mark_by, marks_by}
 use Rattle.listing.proofs.write_marks.Goals as goal
-
-pub loop-i-init : goal.loop-i-init
-loop-i-init c = (search rules, search rules, written_none _ _)
-
-pub loop-i-preserved : goal.loop-i-preserved
-loop-i-preserved c =
-    let x = c.args in
-    let i = c.loop-i.i in
-    let next = written_set i (marked x.rungs.now) x.bytes.now in
-    (omega arith, simp length-set (omega arith), rw (add-one, c.loop-i.invariant.2, c.mark_of.ensures) next)
 
 pub returns : goal.returns
 unfolding marks_by
 returns c =
-    let x = c.args in
-    let all : c.loop-i.i ≡ length x.bytes.now = omega arith in
-    record { bytes = c.loop-i.invariant.2 ∙ rw all (written_all (marked x.rungs.now) x.bytes.now) }
+    let mark = λ (i : _). mark_by (rung_at c.args.rungs.now i) in
+    let all : length c.loop-i.bytes ≡ length c.args.bytes.now = omega arith in
+    record {
+      bytes =
+          written_none mark c.loop-i.bytes ∙ written_rest 0 mark c.loop-i.bytes (λ j z l. c.loop-i.invariant j (omega arith)) ∙ ap (λ n. each n mark) all;
+    }

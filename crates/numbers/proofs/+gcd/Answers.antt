@@ -1,30 +1,14 @@
-use mathlib.Core.Path.{sym, ◌∙◌}
-use Prim.Native.Nat.{◌<◌}
-use native.Mathlib.Nat.{mod-lt}
-use native.Mathlib.Omega.{arith}
-use Rattle.numbers.proofs.Euclid.{gcd_is_gcd, gcd_step, gcd_zero}
+-- The call's divisor is the one of a and b too, since the remainder keeps the common divisors; and two numbers have one greatest common divisor.
+use Rattle.std.proofs.lemmas.Nat.Gcd.{IsGcd-from_zero, IsGcd-from_mod, same_from_IsGcd}
+use Rattle.numbers.proofs.Euclid.{gcd_is_gcd}
 use Rattle.numbers.proofs.+gcd.Goals as goal
 
-pub nonzero_rem-a : goal.nonzero_rem-a
-nonzero_rem-a t c = omega (arith, c.if-b-eq0.false)
-
-pub gcd-requires : goal.gcd-requires
-gcd-requires t c = let p : 0 < c.args.b = omega (arith, c.if-b-eq0.false) in
-    let m = mod-lt c.args.a p in
-    (omega arith, tt)
-
 pub returns-then-b-eq0 : goal.returns-then-b-eq0
-returns-then-b-eq0 t c = let s = c.args in
-    let e = gcd_zero s.a s.b c.if-b-eq0.true in
-    record {
-      value = sym e;
-      which = rw e at (gcd_is_gcd s.a s.b);
-    }
+returns-then-b-eq0 t c =
+    let which = IsGcd-from_zero c.args.a c.args.b c.if-b-eq0.true in
+    record { value = same_from_IsGcd c.args.a c.args.b _ _ which (gcd_is_gcd c.args.a c.args.b); which = which }
 
 pub returns-else-b-eq0 : goal.returns-else-b-eq0
-returns-else-b-eq0 t c = let s = c.args in
-    let e = c.gcd.ensures.value ∙ sym (gcd_step s.a s.b) in
-    record {
-      value = e;
-      which = rw e (gcd_is_gcd s.a s.b);
-    }
+returns-else-b-eq0 t c =
+    let which = IsGcd-from_mod c.args.a c.args.b c.gcd.result c.gcd.ensures.which in
+    record { value = same_from_IsGcd c.args.a c.args.b _ _ which (gcd_is_gcd c.args.a c.args.b); which = which }

@@ -1,48 +1,50 @@
-use mathlib.Core.Path.{sym, ap, ◌∙◌, ◌≡◌}
-use Prim.Native.Nat.{◌-◌}
+use mathlib.Core.Path.{◌≡◌}
+use Prim.Native.Nat.{◌+◌, ◌-◌}
+use native.Mathlib.Nat.{sub-zero}
 use native.Mathlib.Omega.{arith}
-use borrow.Author.Rules.{rules}
-use lib.ListN.{get_or}
+use borrow.Author.Tests.{eqb-true, eqb-false}
+use lib.ListN.{length}
 use lib.Seq.{drop-length}
-use Rattle.numbers.specs.Multiple.{lcm, lcm_all}
-use Rattle.numbers.proofs.Common.{lcm_all_from, rest_le_lcm_all}
-use Rattle.numbers.proofs.Limit.{within_is_at, within_is_above, at_tells, above_tells}
+use Rattle.std.proofs.lemmas.List.{length-reverse, length_push}
+use Rattle.std.proofs.lemmas.Iterator.Adapters.{YieldsList-from_rev_slice}
+use Rattle.std.proofs.lemmas.Bool.Decides.{nat_tests}
+use Rattle.std.proofs.lemmas.Iterator.Consumers.{YieldsList-turn, YieldsList-end}
+use Rattle.numbers.specs.Multiple.{lcm_all}
+use Rattle.numbers.proofs.Common.{lcm_all_last, lcm_all_zero, rest_le_lcm_all}
 use Rattle.numbers.proofs.least_multiple.Goals as goal
 
-pub returns-then-has_zero : goal.returns-then-has_zero
-returns-then-has_zero c = let s = c.args in
-    let e = c.has_zero.ensures.found c.if-has_zero.true in
-    rw e (sym (within_is_at s.most 0 (omega arith)))
+pub returns-then-contains : goal.returns-then-contains
+returns-then-contains c =
+    let zero = c.if-contains.ensures.cases in
+    let e = lcm_all_zero c.args.periods.now zero.0 zero.1 (eqb-true _ 0 (zero.2 0)) in
+    grind (arith, nat_tests)
 
-pub loop-i-init : goal.loop-i-init
+pub loop-period-init : goal.loop-period-init
 unfolding lcm_all
-loop-i-init c = let s = c.args in
-    let none = sym (ap lcm_all (drop-length s.periods.now)) in
-    (search rules, search rules, none, c.has_zero.ensures.none c.if-has_zero.false)
+loop-period-init c = rw (sub-zero, drop-length)
 
-pub multiple_with-requires : goal.multiple_with-requires
-multiple_with-requires c = c.loop-i.invariant.3 (c.loop-i.i - 1) (omega arith)
+pub loop-period-preserved : goal.loop-period-preserved
+loop-period-preserved c =
+    let ps = c.args.periods.now in
+    let turn = YieldsList-turn (YieldsList-from_rev_slice ps cc) c.loop-period.yielded _ c.loop-period.yielded_by _ _ c.in-Some.field-0 c.in-Some.is c.next.ensures.steps in
+    let more = lcm_all_last ps _ _ turn.0 turn.1 in
+    let told = c.in_ok-multiple.was in
+    rw (length_push, more) (grind (arith, nat_tests))
 
-pub returns-in_default : goal.returns-in_default
-returns-in_default c = let s = c.args in
-    let l = c.loop-i in
-    let all = s.periods.now in
-    let from = lcm_all_from all l.i (omega arith) (omega arith) in
-    let with = lcm (get_or all (l.i - 1) 0) l.multiple in
-    let above = above_tells s.most with (sym c.multiple_with.ensures ∙ c.in_default.is) in
-    let rest = rest_le_lcm_all all (l.i - 1) l.invariant.3 in
-    sym (within_is_above s.most (lcm_all all) (omega (arith, rw l.invariant.2 at above)))
-
-pub loop-i-preserved : goal.loop-i-preserved
-loop-i-preserved c = let s = c.args in
-    let l = c.loop-i in
-    let all = s.periods.now in
-    let from = lcm_all_from all l.i (omega arith) (omega arith) in
-    let with = lcm (get_or all (l.i - 1) 0) l.multiple in
-    let told = at_tells s.most with c.in-At.next (sym c.multiple_with.ensures ∙ c.in-At.is) in
-    (search rules, omega arith, cc (told.0, from, l.invariant.2), l.invariant.3)
+pub returns-in_err-multiple : goal.returns-in_err-multiple
+returns-in_err-multiple c =
+    let ps = c.args.periods.now in
+    let turn = YieldsList-turn (YieldsList-from_rev_slice ps cc) c.loop-period.yielded _ c.loop-period.yielded_by _ _ c.in-Some.field-0 c.in-Some.is c.next.ensures.steps in
+    let more = lcm_all_last ps _ _ turn.0 turn.1 in
+    let positive = c.if-contains.ensures.cases in
+    let rest = rest_le_lcm_all ps (length ps - (length c.loop-period.yielded + 1)) (λ k h. omega (arith, eqb-false _ 0 (positive k 0 (omega arith) h))) in
+    let told = c.in_err-multiple.was in
+    grind (arith, nat_tests)
 
 pub returns : goal.returns
-returns c = let l = c.loop-i in
-    let e : l.i ≡ 0 = omega arith in
-    rw (rw e at l.invariant.2) at c.limited.ensures
+returns c =
+    let ps = c.args.periods.now in
+    let end = YieldsList-end (YieldsList-from_rev_slice ps cc) c.loop-period.yielded _ c.loop-period.yielded_by _ _ c.in-None.is c.next.ensures.steps in
+    let whole : length ps - length c.loop-period.yielded ≡ 0 = omega (arith, length-reverse ps) in
+    let e = rw whole at c.loop-period.invariant in
+    cc

@@ -10,29 +10,29 @@ use Rattle.rule.proofs.Refusals.{this, next, comparison_refusal}
 use Rattle.order.proofs.Limits.{denied, granted, comparison_answers}
 use Rattle.order.proofs.compare.Goals as goal
 
-pub returns-then-not-within_limits : goal.returns-then-not-within_limits
+pub returns-then-not-is_valid : goal.returns-then-not-is_valid
 unfolding comparison_checks
-returns-then-not-within_limits c =
-    let invalid = denied c.within_limits.ensures (ap not c.if-not-within_limits.true) in
+returns-then-not-is_valid c =
+    let invalid = denied c.is_valid.ensures (ap not c.if-not-is_valid.true) in
     sym ((comparison_refusal _ _ _ _ _ _).1 (this (ap not invalid)))
 
-pub returns-then-not-within_limits-2 : goal.returns-then-not-within_limits-2
+pub returns-then-not-is_valid-2 : goal.returns-then-not-is_valid-2
 unfolding comparison_checks
-returns-then-not-within_limits-2 c =
-    let valid = granted c.within_limits.ensures (ap not c.if-not-within_limits.false) in
-    let invalid = denied c.within_limits-2.ensures (ap not c.if-not-within_limits-2.true) in
+returns-then-not-is_valid-2 c =
+    let valid = granted c.is_valid.ensures (ap not c.if-not-is_valid.false) in
+    let invalid = denied c.is_valid-2.ensures (ap not c.if-not-is_valid-2.true) in
     sym ((comparison_refusal _ _ _ _ _ _).1 (next (ap not valid) (this (ap not invalid))))
 
 pub returns-then-t-gt-TIME_MOST : goal.returns-then-t-gt-TIME_MOST
 unfolding comparison_checks
 returns-then-t-gt-TIME_MOST c =
-    let valid = granted c.within_limits.ensures (ap not c.if-not-within_limits.false) in
-    let valid2 = granted c.within_limits-2.ensures (ap not c.if-not-within_limits-2.false) in
+    let valid = granted c.is_valid.ensures (ap not c.if-not-is_valid.false) in
+    let valid2 = granted c.is_valid-2.ensures (ap not c.if-not-is_valid-2.false) in
     let late = lt-ltb time_most c.args.t (omega arith) in
     sym ((comparison_refusal _ _ _ _ _ _).1 (next (ap not valid) (next (ap not valid2) (this late))))
 
 pub returns : goal.returns
 returns c =
-    let valid = granted c.within_limits.ensures (ap not c.if-not-within_limits.false) in
-    let valid2 = granted c.within_limits-2.ensures (ap not c.if-not-within_limits-2.false) in
+    let valid = granted c.is_valid.ensures (ap not c.if-not-is_valid.false) in
+    let valid2 = granted c.is_valid-2.ensures (ap not c.if-not-is_valid-2.false) in
     comparison_answers _ _ _ _ _ _ valid valid2 (omega arith) c.plain.ensures

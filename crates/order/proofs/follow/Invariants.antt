@@ -6,9 +6,13 @@ use Rattle.rule.specs.Task.{symbol, compare}
 use Rattle.rule.proofs.Strings.{Compared, EndsBy}
 use Rattle.order.proofs.follow.Given as goal
 
-abbrev pub invariant-loop-a : goal.invariant-loop-a
-invariant-loop-a l =
-    (l.i ≤ l.t + l.p) × Compared (symbol l.e l.p) (symbol l.e2 l.p2) l.i (compare l.t l.e l.p l.e2 l.p2) × EndsBy (symbol l.e l.p) (l.t + 1 + l.p - l.i) l.i
+abbrev pub invariant-places : goal.invariant-places
+invariant-places l =
+    let a = symbol l.first.e l.first.p in
+    let b = symbol l.second.e l.second.p in
+    (l.i ≤ l.t + l.first.p)
+    × Compared a b l.i (compare l.t l.first.e l.first.p l.second.e l.second.p)
+    × EndsBy a (l.t + 1 + l.first.p - l.i) l.i
 
-abbrev pub decreases-loop-a : goal.decreases-loop-a
-decreases-loop-a l = l.t + 1 + l.p - l.i
+abbrev pub decreases-places : goal.decreases-places
+decreases-places l = l.t + 1 + l.first.p - l.i

@@ -1,39 +1,35 @@
--- `run_accepted` meets its contract: what is laid out is the accepted set's field. Assumes nothing.
-use mathlib.Core.Path.{sym}
-use lib.Seq.{length-take-le}
-use Rattle.run.proofs.Accepted.{fits, laid_set}
+-- `run_accepted` meets its contract: what is laid out is the accepted set's field, so that each turn is a turn of the set's own slots.
+-- Assumes nothing.
+use mathlib.Core.Path.{sym, ◌∙◌}
+use Prim.Native.Nat.{◌<◌}
+use native.Mathlib.Omega.{arith}
+use Rattle.run.proofs.Accepted.{laid_set}
+use Rattle.run.proofs.Turns.{going_start, going_end}
+use Rattle.run.proofs.Laid.{parts, turned_refused, turned_done}
 use Rattle.run.proofs.run_accepted.Goals as goal
 
-pub slice_bounds-es-end : goal.slice_bounds-es-end
-slice_bounds-es-end c =
-    let enough = fits c.args.requirements.now c.args.periods.now c.args.m c.args.accepted c.requires.admitted c.lay_out-laid.result
-    c.lay_out-laid.ensures in
-    enough.0
+pub loop-done-init : goal.loop-done-init
+loop-done-init c =
+    going_start _ _ _ _ _ _ _ c.requires.lists_fit.0 c.requires.lists_fit.1
 
-pub slice_bounds-run_laid-end : goal.slice_bounds-run_laid-end
-slice_bounds-run_laid-end c =
-    let enough = fits c.args.requirements.now c.args.periods.now c.args.m c.args.accepted c.requires.admitted c.lay_out-laid.result
-    c.lay_out-laid.ensures in
-    sym (length-take-le _ _ enough.0)
+pub returns-then-is_err : goal.returns-then-is_err
+returns-then-is_err c =
+    let a = c.args in
+    let set = laid_set a.requirements.now a.periods.now a.m a.accepted c.requires.admitted c.lay_out-laid.result c.lay_out-laid.ensures
+    _ _ c.requirements.ensures c.periods.ensures in
+    let more : c.loop-done.done < a.slots = omega arith in
+    parts
+    (turned_refused _ _ _ _ _ _ set _ _ _ _ _ _ _ c.loop-done.invariant more _ _ _
+    c.deal-end.ensures.answer c.deal-end.ensures.counts c.deal-end.ensures.bytes (sym c.is_err.ensures.value ∙ c.if-is_err.true))
 
-pub slice_bounds-ps-end : goal.slice_bounds-ps-end
-slice_bounds-ps-end c =
-    let enough = fits c.args.requirements.now c.args.periods.now c.args.m c.args.accepted c.requires.admitted c.lay_out-laid.result
-    c.lay_out-laid.ensures in
-    enough.1
+pub loop-done-preserved : goal.loop-done-preserved
+loop-done-preserved c =
+    let a = c.args in
+    let set = laid_set a.requirements.now a.periods.now a.m a.accepted c.requires.admitted c.lay_out-laid.result c.lay_out-laid.ensures
+    _ _ c.requirements.ensures c.periods.ensures in
+    let more : c.loop-done.done < a.slots = omega arith in
+    turned_done _ _ _ _ _ _ set _ _ _ _ _ _ _ c.loop-done.invariant more _ _ _
+    c.deal-end.ensures.answer c.deal-end.ensures.counts c.deal-end.ensures.bytes (sym c.is_err.ensures.value ∙ c.if-is_err.false)
 
-pub slice_bounds-run_laid-end-2 : goal.slice_bounds-run_laid-end-2
-slice_bounds-run_laid-end-2 c =
-    let enough = fits c.args.requirements.now c.args.periods.now c.args.m c.args.accepted c.requires.admitted c.lay_out-laid.result
-    c.lay_out-laid.ensures in
-    sym (length-take-le _ _ enough.1)
-
-pub run_laid-requires : goal.run_laid-requires
-run_laid-requires c =
-    let set = laid_set c.args.requirements.now c.args.periods.now c.args.m c.args.accepted c.requires.admitted c.lay_out-laid.result c.lay_out-laid.ensures in
-    record {
-      set_passes = (set.same, set.pass);
-      laid_out = (set.requirements, set.periods);
-      in_use = set.in_use;
-      lists_fit = c.requires.lists_fit;
-    }
+pub returns : goal.returns
+returns c = parts (sym (going_end _ _ _ _ _ _ _ _ _ _ c.loop-done.invariant c.loop-done-test.false))

@@ -1,7 +1,0 @@
--- `end_line` meets its contract: a store past the end changes nothing. Assumes nothing.
-use mathlib.Core.Path.{sym}
-use lib.Seq.{set_out}
-use Rattle.writing.proofs.end_line.Goals as goal
-
-pub returns-else-at-out : goal.returns-else-at-out
-returns-else-at-out c = sym (set_out _ _ _ c.if-at-out.false)
