@@ -13,7 +13,7 @@ use Rattle.frames.specs.declared.Kept.{Kept}
 use Rattle.frames.specs.Session.{Session}
 use Rattle.frames.specs.Replies.{reply}
 use Rattle.frames.specs.Transcript.{answer_to}
-use Rattle.frames.specs.Keeping.{log_most, has_room, answered}
+use Rattle.frames.specs.Keeping.{log_most, tasks_of, has_room, HasRoom, SameLists, answered}
 
 parts : (a b c d e : Bool) → (a && b && c && d && e) ≡ true → (a ≡ true) × (b ≡ true) × (c ≡ true) × (d ≡ true) × (e ≡ true)
 parts true true true true e q = (refl, refl, refl, refl, q)
@@ -22,25 +22,31 @@ parts true true false d e q = absurd (let z : ◌≡◌ {A = ℕ} 0 1 = cc in om
 parts true false c d e q = absurd (let z : ◌≡◌ {A = ℕ} 0 1 = cc in omega arith)
 parts false b c d e q = absurd (let z : ◌≡◌ {A = ℕ} 0 1 = cc in omega arith)
 
-pub roomy : (n a b c d : ℕ) → (leb n 64 && leb 64 a && leb 64 b && leb 64 c && leb log_most d) ≡ true → (n ≤ 64) × (64 ≤ a) × (64 ≤ b) × (64 ≤ c) × (log_most ≤ d)
-roomy n a b c d q =
-    let p = parts (leb n 64) (leb 64 a) (leb 64 b) (leb 64 c) (leb log_most d) q in
-    (leb-true n 64 p.0, leb-true 64 a p.1, leb-true 64 b p.2, leb-true 64 c p.3, leb-true log_most d p.4)
+module _ (k : Kept) where
+  pub roomy : has_room k ≡ true → HasRoom k
+  unfolding has_room
+  roomy q =
+      let p = parts (leb (tasks_of k.set) 64) (leb 64 (length k.requirements.now)) (leb 64 (length k.periods.now)) (leb 64 (length k.counts.now)) (leb log_most (length k.log.now)) q in
+      (leb-true _ 64 p.0, leb-true 64 _ p.1, leb-true 64 _ p.2, leb-true 64 _ p.3, leb-true log_most _ p.4)
 
-module _ (k : Kept) (es ps ks log line : List ℕ) (w : Session) where
-  pub with_room : (leb k.n 64 && leb 64 (length es) && leb 64 (length ps) && leb 64 (length ks) && leb log_most (length log)) ≡ true
-      → reply w (read line) ≡ answered (has_room k es ps ks log) w line
-  unfolding has_room answered answer_to
+  pub is_roomy : HasRoom k → has_room k ≡ true
+  unfolding has_room
+  is_roomy h = rw (le-leb _ 64 h.0, le-leb 64 _ h.1, le-leb 64 _ h.2, le-leb 64 _ h.3, le-leb log_most _ h.4)
+
+  pub not_roomy : ¬ HasRoom k → has_room k ≡ false
+  not_roomy n = elim (has_room k) as (λ b. has_room k ≡ b → has_room k ≡ false) [ true ↦ (λ q. absurd (n (roomy q))) | false ↦ (λ q. q) ] refl
+
+  -- Lists of the same lengths, and a set of no more than 64 tasks before and after.
+  pub room_stays : (k' : Kept) → HasRoom k → SameLists k k' → tasks_of k'.set ≤ 64 → has_room k' ≡ has_room k
+  unfolding has_room
+  room_stays k' room same few =
+      rw (le-leb _ 64 room.0, le-leb _ 64 few, same.4, same.5, same.6, same.7)
+
+module _ (b : Bool) (w : Session) (line : List ℕ) where
+  pub with_room : b ≡ true → reply w (read line) ≡ answered b w line
+  unfolding answered answer_to
   with_room q = rw q
 
-  pub without_room : (leb k.n 64 && leb 64 (length es) && leb 64 (length ps) && leb 64 (length ks) && leb log_most (length log)) ≡ false
-      → record { session = w; text = [] } ≡ answered (has_room k es ps ks log) w line
-  unfolding has_room answered
+  pub without_room : b ≡ false → record { session = w; text = [] } ≡ answered b w line
+  unfolding answered
   without_room q = rw q
-
--- Lists of the same lengths, and a set of no more than 64 tasks before and after.
-pub room_stays : (k k' : Kept) (es es' ps ps' ks ks' log log' : List ℕ) → k.n ≤ 64 → k'.n ≤ 64
-    → length es' ≡ length es → length ps' ≡ length ps → length ks' ≡ length ks → length log' ≡ length log
-    → has_room k' es' ps' ks' log' ≡ has_room k es ps ks log
-unfolding has_room
-room_stays k k' es es' ps ps' ks ks' log log' few few' a b c d = rw (le-leb k.n 64 few, le-leb k'.n 64 few', a, b, c, d)

@@ -1,8 +1,7 @@
 -- No answer is longer than the longest one: 1,024 lines of a slot and a refusal's. Assumes nothing.
 use Rattle.std.specs.Prelude.{Err, Ok, Result}
-use mathlib.Core.Path.{◌≡◌, refl, ap}
 use mathlib.Core.List.{List, ◌∷◌, ◌++◌}
-use Prim.Native.Nat.{ℕ, zero, suc, ◌*◌, ◌≤◌}
+use Prim.Native.Nat.{ℕ, ◌*◌, ◌≤◌}
 use native.Mathlib.Omega.{arith}
 use lib.ListN.{length, length-append}
 use Rattle.rule.specs.declared.Refusal.{Refusal}
@@ -17,17 +16,18 @@ use Rattle.run.proofs.Done.{done_few}
 use Rattle.writing.specs.AnswerLines.{slot_lines, end_line}
 use Rattle.writing.proofs.Sizes.{length_line, length_refusal, length_malformed, length_accepted, take_few, slots_small, end_small}
 use Rattle.reading.specs.Kinds.{Frame, admit, run, list, malformed, read}
+use Rattle.frames.specs.declared.InForce.{InForce}
 use Rattle.frames.specs.declared.Kept.{Kept}
 use Rattle.frames.specs.Session.{Session, no_set, in_force}
 use Rattle.frames.specs.Replies.{admit_reply, run_reply, list_text, reply}
 use Rattle.frames.specs.Transcript.{answer_to}
-use Rattle.frames.specs.Keeping.{session_of, answer_most}
-use Rattle.frames.proofs.Keeping.{in_force_lem, no_set_lem}
+use Rattle.std.specs.Prelude.{Option, Some, None}
+use Rattle.frames.specs.Keeping.{session_with, session_of, tasks_of, answer_most}
 
 -- How many tasks the set in force has.
-abbrev tasks_of : Session → ℕ
-tasks_of no_set = 0
-tasks_of (in_force m es ps ks t) = length es
+abbrev all_tasks : Session → ℕ
+all_tasks no_set = 0
+all_tasks (in_force m es ps ks t) = length es
 
 admit_small : (was : Session) (m : ℕ) (es ps : List ℕ) (a : Result Accepted Refusal) → length (admit_reply was m es ps a).text ≤ answer_most
 unfolding admit_reply
@@ -46,7 +46,7 @@ list_small passed es ps ks bytes t few =
     omega arith
 list_small (refused r) es ps ks bytes t few = let h = length_refusal r in omega arith
 
-reply_small : (was : Session) (f : Frame) → tasks_of was ≤ 64 → length (reply was f).text ≤ answer_most
+reply_small : (was : Session) (f : Frame) → all_tasks was ≤ 64 → length (reply was f).text ≤ answer_most
 unfolding reply run_reply listing
 reply_small was malformed few = let h = length_malformed in omega arith
 reply_small was (admit m es ps) few = admit_small was m es ps (admission es ps m)
@@ -62,16 +62,12 @@ reply_small no_set list few = let h = length_malformed in omega arith
 reply_small (in_force m es ps ks t) list few =
     list_small (first (listing_checks es ps ks (each (length es) (λ i. 0)) m t)) es ps ks (each (length es) (λ i. 0)) t few
 
-few_tasks : (k : Kept) (es ps ks : List ℕ) → k.n ≤ 64 → tasks_of (session_of k es ps ks) ≤ 64
-few_tasks k es ps ks few = by_tasks k.n refl
-  where
-    by_tasks : (n : ℕ) → k.n ≡ n → tasks_of (session_of k es ps ks) ≤ 64
-    by_tasks zero is = let none = ap tasks_of (no_set_lem k es ps ks is) in omega arith
-    by_tasks (suc n) is =
-        let some = ap tasks_of (in_force_lem k es ps ks (omega arith)) in
-        let h = take_few k.n es in
-        omega arith
-
-pub answer_small : (k : Kept) (es ps ks line : List ℕ) → k.n ≤ 64 → length (answer_to (session_of k es ps ks) line).text ≤ answer_most
+pub answer_small : (k : Kept) (line : List ℕ) → tasks_of k.set ≤ 64 → length (answer_to (session_of k) line).text ≤ answer_most
 unfolding answer_to
-answer_small k es ps ks line few = reply_small (session_of k es ps ks) (read line) (few_tasks k es ps ks few)
+answer_small k line few = go k.set few
+  where
+    go : (set : Option InForce) → tasks_of set ≤ 64 → length (reply (session_with set k.requirements.now k.periods.now k.counts.now) (read line)).text ≤ answer_most
+    go None few = reply_small no_set (read line) (omega arith)
+    go (Some s) few =
+        let h = take_few s.n k.requirements.now in
+        reply_small (session_with (Some s) k.requirements.now k.periods.now k.counts.now) (read line) (omega arith)

@@ -1,12 +1,11 @@
 -- Lines of a piece in a row are the piece byte by byte, as far as the answers have room. Assumes nothing.
 use mathlib.Core.Path.{◌≡◌, refl, sym, ap, ◌∙◌}
-use mathlib.Core.Bool.{Bool, true, false, ◌&&◌}
+use mathlib.Core.Bool.{Bool, true, false}
 use mathlib.Core.List.{List, [], ◌∷◌, ◌++◌}
 use Prim.Native.Nat.{ℕ, ◌+◌, ◌-◌, ◌≤◌, ◌<◌}
 use native.Mathlib.Nat.{zero-add}
 use native.Mathlib.Omega.{arith}
-use borrow.Author.Tests.{ltb-false, leb-false, le-leb}
-use lib.Dec.{ltb, leb}
+use borrow.Author.Tests.{le-leb}
 use lib.ListN.{length, take, drop, drop_of_length-le, length-append}
 use lib.Seq.{sets, take-add, drop-drop}
 use Rattle.digits.proofs.Stores.{sets_append}
@@ -88,19 +87,11 @@ module _ (was : Session) (line piece out : List ℕ) where
           omega (arith, so.4, left, e, same),
         )
 
-    piece_ends : length piece ≤ at → at ≡ reach (length out) was line piece
+    pub piece_ends : length piece ≤ at → at ≡ reach (length out) was line piece
     unfolding reach
     piece_ends over =
         let none = ap (reach (length out - size) was' line') (drop_of_length-le piece {i = at} over) in
         omega (arith, none, so.4)
 
-    room_ends : length out - size < answer_most → at ≡ reach (length out) was line piece
+    pub room_ends : length out - size < answer_most → at ≡ reach (length out) was line piece
     room_ends full = let none = reach_stops (length out - size) was' line' (drop at piece) full in omega (arith, none, so.4)
-
-    -- Nothing more goes on: the piece is at its end, or the longest answer has no room.
-    pub all_taken : (ltb at (length piece) && leb answer_most (length out - size)) ≡ false → at ≡ reach (length out) was line piece
-    all_taken q = go (ltb at (length piece)) refl
-      where
-        go : (t : Bool) → ltb at (length piece) ≡ t → at ≡ reach (length out) was line piece
-        go true more = room_ends (leb-false _ _ (rw more at q))
-        go false over = piece_ends (ltb-false _ _ over)

@@ -9,11 +9,11 @@ use lib.Seq.{sets, take_all}
 use Rattle.frames.specs.declared.Kept.{Kept}
 use Rattle.frames.specs.Session.{Session}
 use Rattle.frames.specs.Transcript.{answer_to}
-use Rattle.frames.specs.Keeping.{session_of, has_room, answer_most, answered}
+use Rattle.frames.specs.Keeping.{session_of, has_room, HasRoom, answer_most, answered}
 use Rattle.frames.proofs.Sizes.{answer_small}
 use Rattle.stream.specs.Taking.{scan, step_by, step}
 use Rattle.stream.specs.Pieces.{ended, ended_by}
-use Rattle.stream.proofs.Rooms.{few_tasks}
+use Rattle.frames.proofs.Room.{is_roomy}
 
 -- ---- the line goes on, or is answered
 
@@ -27,30 +27,25 @@ unfolding answered
 answered_roomy b was line q = rw q
 
 -- An answer, by its size as the code tells it, is no longer than the longest one.
-pub answer_fits : (k : Kept) (es ps ks log line : List ℕ) → has_room k es ps ks log ≡ true → (size : ℕ)
-    → size ≡ length (answered (has_room k es ps ks log) (session_of k es ps ks) line).text → size ≤ answer_most
-answer_fits k es ps ks log line room size is =
-    let said = ap (λ r. length r.text) (answered_roomy (has_room k es ps ks log) (session_of k es ps ks) line room) in
-    let small = answer_small k es ps ks line (few_tasks k es ps ks log room) in
+pub answer_fits : (k : Kept) (line : List ℕ) → HasRoom k → (size : ℕ) → size ≡ length (answered (has_room k) (session_of k) line).text → size ≤ answer_most
+answer_fits k line room size is =
+    let said = ap (λ r. length r.text) (answered_roomy (has_room k) (session_of k) line (is_roomy k room)) in
+    let small = answer_small k line room.0 in
     omega arith
 
-module _ (k : Kept) (es ps ks log line bs : List ℕ) where
-  pub step_answers : (l : List ℕ) → has_room k es ps ks log ≡ true → (scan line bs).ended ≡ true → l ≡ (scan line bs).line
-      → ((answered (has_room k es ps ks log) (session_of k es ps ks) l).session ≡ (step (session_of k es ps ks) line bs).session)
-      × ([] ≡ (step (session_of k es ps ks) line bs).line)
-      × ((answered (has_room k es ps ks log) (session_of k es ps ks) l).text ≡ (step (session_of k es ps ks) line bs).text)
-      × (length (step (session_of k es ps ks) line bs).text ≤ answer_most)
+module _ (k : Kept) (line bs : List ℕ) where
+  pub step_answers : (l : List ℕ) → HasRoom k → (scan line bs).ended ≡ true → l ≡ (scan line bs).line
+      → ((answered (has_room k) (session_of k) l).session ≡ (step (session_of k) line bs).session)
+      × ([] ≡ (step (session_of k) line bs).line)
+      × ((answered (has_room k) (session_of k) l).text ≡ (step (session_of k) line bs).text)
   unfolding step_by
   step_answers l room ends is =
-      let was = session_of k es ps ks in
+      let was = session_of k in
       let here : step_by was (scan line bs) ≡ record { session = (answer_to was (scan line bs).line).session; line = []; text = (answer_to was (scan line bs).line).text } = rw ends in
-      let said = answered_roomy (has_room k es ps ks log) was l room ∙ ap (answer_to was) is in
-      let small = answer_small k es ps ks (scan line bs).line (few_tasks k es ps ks log room) in
-      let size = ap (λ s. length s.text) here in (
+      let said = answered_roomy (has_room k) was l (is_roomy k room) ∙ ap (answer_to was) is in (
         ap (λ r. r.session) said ∙ sym (ap (λ s. s.session) here),
         sym (ap (λ s. s.line) here),
         ap (λ r. r.text) said ∙ sym (ap (λ s. s.text) here),
-        omega arith,
       )
 
 -- ---- stored after the others
@@ -63,6 +58,13 @@ sets_after : (n : ℕ) (l vs : List ℕ) → n ≤ length l → take n l ++ sets
 sets_after zero l vs h = refl
 sets_after (suc n) [] vs h = absurd (omega arith)
 sets_after (suc n) (x ∷ l) vs h = ap (λ z. x ∷ z) (sets_after n l vs (omega arith)) ∙ sym (sets_cons x l n vs)
+
+-- The part of a list from a place on, as a slice has it.
+pub rest_is : (xs : List ℕ) (i : ℕ) → take (length xs - i) (drop i xs) ≡ drop i xs
+rest_is xs i = let long = length-drop i xs in take_all (length xs - i) (drop i xs) (omega arith)
+
+pub rest_length : (xs : List ℕ) (i : ℕ) → length (take (length xs - i) (drop i xs)) ≡ length xs - i
+rest_length xs i = ap length (rest_is xs i) ∙ length-drop i xs
 
 -- What is stored in the part of a list from a place on is stored there in the list.
 pub stored_after : (out : List ℕ) (size : ℕ) (part text : List ℕ) → size ≤ length out
@@ -93,8 +95,8 @@ some_line was line zero some inside = absurd (omega arith)
 some_line was [] (suc n) some inside = absurd (omega arith)
 some_line was (c ∷ cs) (suc n) some inside = refl
 
-pub ended_line : (b : Bool) (k : Kept) (es ps ks log line : List ℕ) (held : ℕ) → b ≡ true → has_room k es ps ks log ≡ true → 0 < held → held ≤ length line
-    → answered (has_room k es ps ks log) (session_of k es ps ks) (take held line) ≡ ended_by b (session_of k es ps ks) (take held line)
+pub ended_line : (b : Bool) (k : Kept) (line : List ℕ) (held : ℕ) → b ≡ true → HasRoom k → 0 < held → held ≤ length line
+    → answered (has_room k) (session_of k) (take held line) ≡ ended_by b (session_of k) (take held line)
 unfolding ended_by
-ended_line b k es ps ks log line held roomy room some inside =
-    rw roomy (answered_roomy (has_room k es ps ks log) (session_of k es ps ks) (take held line) room ∙ sym (some_line (session_of k es ps ks) line held some inside))
+ended_line b k line held roomy room some inside =
+    rw roomy (answered_roomy (has_room k) (session_of k) (take held line) (is_roomy k room) ∙ sym (some_line (session_of k) line held some inside))

@@ -1,20 +1,24 @@
 -- A piece a line at a time is the piece byte by byte. Assumes nothing.
 use mathlib.Core.Path.{◌≡◌, refl, sym, ap, ◌∙◌}
 use mathlib.Core.Bool.{Bool, true, false, cond}
-use mathlib.Core.List.{List, [], ◌∷◌, append-nil}
-use Prim.Native.Nat.{ℕ, suc, ◌+◌, ◌-◌, ◌≤◌, ◌<◌}
+use mathlib.Core.List.{List, [], ◌∷◌, ◌++◌, append-nil, append_assoc}
+use Prim.Native.Nat.{ℕ, zero, suc, ◌+◌, ◌-◌, ◌≤◌, ◌<◌, min}
 use native.Mathlib.Omega.{arith}
-use borrow.Author.Tests.{le-leb, lt-leb, eq-eqb, ne_eqb}
-use lib.Dec.{eqb}
-use lib.ListN.{length, get_or, set, take, drop, drop_of_length-le}
-use lib.Seq.{drop-cons, take-suc-set, length-take-le}
+use borrow.Author.Tests.{ltb-false, leb-true, leb-false, le-leb, lt-leb}
+use Rattle.std.specs.Prelude.{Option, Some, None, position}
+use Rattle.std.specs.List.{position_or_len}
+use Rattle.std.proofs.lemmas.List.Sums.{fails_before_first}
+use Rattle.std.proofs.lemmas.List.Quantifiers.{position-Some}
+use lib.Dec.{eqb, leb, ltb}
+use lib.ListN.{length, get_or, take, drop, length-append}
+use lib.Seq.{length-take-le, take_all}
 use Rattle.reading.specs.Kinds.{digits_most}
 use Rattle.writing.specs.AnswerLines.{line_feed}
 use Rattle.frames.specs.Session.{Session}
 use Rattle.frames.specs.Transcript.{answer_to}
 use Rattle.frames.specs.Stream.{Fed, with_byte, feed}
 use Rattle.frames.specs.Keeping.{answer_most}
-use Rattle.stream.specs.Taking.{Scan, scan, Step, step_by, step}
+use Rattle.stream.specs.Taking.{hold, Scan, scan, Step, step_by, step}
 use Rattle.stream.specs.Pieces.{line_most, reach}
 
 -- ---- one line of a piece
@@ -83,62 +87,108 @@ unfolding reach
 reach_stops room was line [] h = refl
 reach_stops room was line (b ∷ bs) h = rw (lt-leb answer_most room h)
 
--- ---- a byte of a line
+-- ---- the bytes up to a line feed, all at once
 
--- What is left to scan from a place on gives what the whole gives.
-abbrev pub Left : List ℕ → List ℕ → ℕ → ℕ → Scan → Type 0
-Left line piece at from all =
-    let left = scan line (drop at piece) in
-    (left.line ≡ all.line) × (at + left.used ≡ from + all.used) × (left.ended ≡ all.ended)
+take_min : (bs : List ℕ) (n : ℕ) → take (min (length bs) n) bs ≡ take n bs
+take_min bs n = elim (leb (length bs) n) as (λ t. leb (length bs) n ≡ t → take (min (length bs) n) bs ≡ take n bs) [
+  | true ↦ (λ q. let h = leb-true (length bs) n q in let m : min (length bs) n ≡ length bs = omega (arith, h) in rw m (take_all (length bs) bs (omega arith) ∙ sym (take_all n bs h)))
+  | false ↦ (λ q. let h = leb-false (length bs) n q in let m : min (length bs) n ≡ n = omega (arith, h) in rw m refl)
+] refl
 
-module _ (line piece : List ℕ) (at from : ℕ) (all : Scan) (left : Left line piece at from all) where
-  -- Here the code stands, and what it has taken is the line.
-  abbrev pub Whole : ℕ → Bool → Type 0
-  Whole next ended = (line ≡ all.line) × (next ≡ from + all.used) × (ended ≡ all.ended)
+-- A line that is not too long takes as many bytes more as it has room for.
+pub hold_is : (bs line : List ℕ) → length line ≤ line_most → hold line bs ≡ line ++ take (line_most - length line) bs
+unfolding hold with_byte
+hold_is [] line h = sym (ap (λ l. line ++ l) (take_all (line_most - length line) [] (omega arith)) ∙ append-nil line)
+hold_is (b ∷ bs) line h = go (leb (length line) digits_most) refl (λ l short. hold_is bs l short)
+  where
+    go : (t : Bool) → leb (length line) digits_most ≡ t → ((l : List ℕ) → length l ≤ line_most → hold l bs ≡ l ++ take (line_most - length l) bs)
+        → hold (cond t (line ++ b ∷ []) line) bs ≡ line ++ take (line_most - length line) (b ∷ bs)
+    go true q later =
+        let some = leb-true (length line) digits_most q in
+        let longer = length-append line (b ∷ []) in
+        let left : line_most - length line ≡ suc (line_most - length (line ++ b ∷ [])) = omega (arith, some, longer) in
+        later (line ++ b ∷ []) (omega (arith, some, longer)) ∙ append_assoc line (b ∷ []) _ ∙ rw left refl
+    go false q later =
+        let full = leb-false (length line) digits_most q in
+        let none : line_most - length line ≡ 0 = omega (arith, full, h) in
+        later line h ∙ rw none refl
 
-  pub scan_over : length piece ≤ at → Whole at false
-  unfolding scan
-  scan_over out =
-      let none = drop_of_length-le piece {i = at} out in
-      let seen = ap (scan line) none in
-      (sym (ap (λ s. s.line) seen) ∙ left.0, (let used = ap (λ s. s.used) seen in omega (arith, used, left.1)), sym (ap (λ s. s.ended) seen) ∙ left.2)
+-- as the code says it, of a line at the front of a list
+pub held_part : (list bs : List ℕ) (held n : ℕ) → held ≤ line_most → held ≤ length list → n ≡ min (length bs) (line_most - held)
+    → take held list ++ take n bs ≡ hold (take held list) bs
+held_part list bs held n short inside is =
+    let all = length-take-le held list inside in
+    ap (λ l. take held list ++ l) (ap (λ i. take i bs) is ∙ take_min bs (line_most - held))
+    ∙ sym (hold_is bs (take held list) (omega (arith, all, short)) ∙ rw all refl)
 
-  scan_here : at < length piece
-      → scan line (drop at piece) ≡ after (eqb (get_or piece at 0) line_feed) line (scan (with_byte line (get_or piece at 0)) (drop (suc at) piece))
-  unfolding scan
-  scan_here inside = rw (drop-cons piece at 0 inside)
+-- A scan ends at the first line feed.
+pub scan_ends : (bs line : List ℕ) (i : ℕ) → i < length bs → eqb (get_or bs i 0) line_feed ≡ true → ((k : ℕ) → k < i → eqb (get_or bs k 0) line_feed ≡ false)
+    → scan line bs ≡ record { line = hold line (take i bs); used = suc i; ended = true }
+unfolding scan hold
+scan_ends [] line i h here before = absurd (omega arith)
+scan_ends (b ∷ bs) line zero h here before = rw here refl
+scan_ends (b ∷ bs) line (suc i) h here before =
+    rw (before 0 (omega arith), scan_ends bs (with_byte line b) i (omega arith) here (λ k less. before (suc k) (omega arith))) refl
 
-  pub scan_ended : at < length piece → get_or piece at 0 ≡ line_feed → Whole (at + 1) true
-  scan_ended inside feeds =
-      let seen = scan_here inside ∙ ap (λ t. after t line (scan (with_byte line (get_or piece at 0)) (drop (suc at) piece))) (eq-eqb _ _ feeds) in
-      (sym (ap (λ s. s.line) seen) ∙ left.0, (let used = ap (λ s. s.used) seen in omega (arith, used, left.1)), sym (ap (λ s. s.ended) seen) ∙ left.2)
+-- With no line feed it takes all the bytes.
+pub scan_all : (bs line : List ℕ) → ((k : ℕ) → k < length bs → eqb (get_or bs k 0) line_feed ≡ false)
+    → scan line bs ≡ record { line = hold line bs; used = length bs; ended = false }
+unfolding scan hold
+scan_all [] line none = refl
+scan_all (b ∷ bs) line none = rw (none 0 (omega arith), scan_all bs (with_byte line b) (λ k less. none (suc k) (omega arith))) refl
 
-  pub scan_goes_on : (line' : List ℕ) → at < length piece → (get_or piece at 0 ≡ line_feed → ⊥) → line' ≡ with_byte line (get_or piece at 0) → Left line' piece (at + 1) from all
-  scan_goes_on line' inside not is =
-      let next : at + 1 ≡ suc at = omega arith in
-      let seen = scan_here inside ∙ ap (λ t. after t line (scan (with_byte line (get_or piece at 0)) (drop (suc at) piece))) (ne_eqb _ _ not) in
-      let same : scan line' (drop (at + 1) piece) ≡ scan (with_byte line (get_or piece at 0)) (drop (suc at) piece) =
-      ap (λ l. scan l (drop (at + 1) piece)) is ∙ ap (λ n. scan (with_byte line (get_or piece at 0)) (drop n piece)) next in (
-        ap (λ s. s.line) same ∙ sym (ap (λ s. s.line) seen) ∙ left.0,
-        (let used = ap (λ s. s.used) seen in let here = ap (λ s. s.used) same in omega (arith, used, here, left.1)),
-        ap (λ s. s.ended) same ∙ sym (ap (λ s. s.ended) seen) ∙ left.2,
-      )
+-- The same of a line feed that the library's `position` looks for.
+abbrev feeds : ℕ → Bool
+feeds b = eqb b line_feed
 
-pub byte_left_out : (line : List ℕ) (held b : ℕ) → line_most ≤ held → held ≤ length line → take held line ≡ with_byte (take held line) b
-unfolding with_byte
-byte_left_out line held b full inside = rw (lt-leb (length (take held line)) digits_most (let h = length-take-le held line inside in omega arith))
+pub scan_found : (bs line : List ℕ) (i : ℕ) → position feeds bs ≡ Some i → scan line bs ≡ record { line = hold line (take i bs); used = suc i; ended = true }
+scan_found bs line i q = let found = position-Some feeds bs i 0 q in scan_ends bs line i found.0 found.1 found.2
 
-pub byte_stored : (line : List ℕ) (held b : ℕ) → held < line_most → held < length line → take (held + 1) (set line held b) ≡ with_byte (take held line) b
-unfolding with_byte
-byte_stored line held b room inside =
-    let short = le-leb (length (take held line)) digits_most (let h = length-take-le held line (omega arith) in omega arith) in
-    rw short (ap (λ n. take n (set line held b)) (let h : held + 1 ≡ suc held = omega arith in h) ∙ take-suc-set line held b inside)
+nowhere : (bs : List ℕ) → position feeds bs ≡ None → (k : ℕ) → k < length bs → feeds (get_or bs k 0) ≡ false
+nowhere bs q k less = fails_before_first feeds bs k 0 (go (ltb (position_or_len feeds bs) (length bs)) refl q)
+  where
+    go : (t : Bool) → ltb (position_or_len feeds bs) (length bs) ≡ t → cond t (Some (position_or_len feeds bs)) None ≡ None → k < position_or_len feeds bs
+    go true e h = absurd (let z : ◌≡◌ {A = ℕ} 0 1 = cc in omega arith)
+    go false e h = let over = ltb-false _ _ e in omega (arith, over, less)
+
+pub scan_not_found : (bs line : List ℕ) → position feeds bs ≡ None → scan line bs ≡ record { line = hold line bs; used = length bs; ended = false }
+scan_not_found bs line q = scan_all bs line (nowhere bs q)
+
+-- What the code is told of a scan: how many bytes it took where a line feed ended it.
+abbrev told : Scan → Option ℕ
+told s = cond s.ended (Some s.used) None
+
+pub told_none : (s : Scan) → told s ≡ None → s.ended ≡ false
+told_none s q = go s.ended refl q
+  where
+    go : (t : Bool) → s.ended ≡ t → cond t (Some s.used) None ≡ None → s.ended ≡ false
+    go true e h = absurd (let z : ◌≡◌ {A = ℕ} 0 1 = cc in omega arith)
+    go false e h = e
+
+pub told_some : (s : Scan) (i : ℕ) → told s ≡ Some i → (s.ended ≡ true) × (i ≡ s.used)
+told_some s i q = go s.ended refl q
+  where
+    go : (t : Bool) → s.ended ≡ t → cond t (Some s.used) None ≡ Some i → (s.ended ≡ true) × (i ≡ s.used)
+    go true e h = (e, cc)
+    go false e h = absurd (let z : ◌≡◌ {A = ℕ} 0 1 = cc in omega arith)
+
+-- Without a line feed all the bytes are taken.
+pub scan_whole : (bs line : List ℕ) → (scan line bs).ended ≡ false → length bs ≡ (scan line bs).used
+unfolding scan
+scan_whole [] line q = refl
+scan_whole (b ∷ bs) line q = go (eqb b line_feed) q (λ h. scan_whole bs (with_byte line b) h)
+  where
+    go : (t : Bool) → (after t line (scan (with_byte line b) bs)).ended ≡ false → ((scan (with_byte line b) bs).ended ≡ false → length bs ≡ (scan (with_byte line b) bs).used)
+        → suc (length bs) ≡ (after t line (scan (with_byte line b) bs)).used
+    go true h later = absurd (let z : ◌≡◌ {A = ℕ} 0 1 = cc in omega arith)
+    go false h later = ap suc (later h)
 
 -- A byte at least is taken where there is one.
-pub scan_onward : (line piece : List ℕ) (at : ℕ) → at < length piece → 0 < (scan line (drop at piece)).used
+pub scan_onward : (line bs : List ℕ) → 0 < length bs → 0 < (scan line bs).used
 unfolding scan
-scan_onward line piece at inside = rw (drop-cons piece at 0 inside) (go (eqb (get_or piece at 0) line_feed))
+scan_onward line [] some = absurd (omega arith)
+scan_onward line (b ∷ bs) some = go (eqb b line_feed)
   where
-    go : (t : Bool) → 0 < (after t line (scan (with_byte line (get_or piece at 0)) (drop (suc at) piece))).used
+    go : (t : Bool) → 0 < (after t line (scan (with_byte line b) bs)).used
     go true = omega arith
     go false = omega arith

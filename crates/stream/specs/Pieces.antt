@@ -1,28 +1,39 @@
 -- What is kept between pieces of input, and how far into a piece the answers have room.
-use Rattle.std.specs.Prelude.{Bool, cond, ◌&&◌, List, [], ◌∷◌, ℕ, suc, ◌-◌, leb, eqb, length, take}
+use Rattle.std.specs.Prelude.{Bool, cond, ◌≡◌, ◌&&◌, List, [], ◌∷◌, ℕ, suc, ◌-◌, ◌≤◌, leb, eqb, length, take}
 use Rattle.writing.specs.AnswerLines.{line_feed}
 use Rattle.frames.specs.Session.{Session}
 use Rattle.frames.specs.Replies.{Reply}
 use Rattle.frames.specs.Transcript.{answer_to}
 use Rattle.frames.specs.Stream.{with_byte}
-use Rattle.frames.specs.Keeping.{session_of, has_room, answer_most}
-use Rattle.stream.specs.declared.Waiting.{Waiting}
+use Rattle.frames.specs.Keeping.{session_of, has_room, HasRoom, SameLists, answer_most}
+use Rattle.stream.specs.declared.Reader.{Reader}
 
 -- One byte past the longest line.
 abbrev pub line_most : ℕ
 line_most = 519
 
 -- The session that is kept.
-abbrev pub session_at : Waiting → List ℕ → List ℕ → List ℕ → Session
-session_at w es ps ks = session_of w.kept es ps ks
+abbrev pub session_at : Reader → Session
+session_at r = session_of r.kept
 
 -- The line at hand.
-abbrev pub line_at : Waiting → List ℕ → List ℕ
-line_at w line = take w.held line
+abbrev pub line_at : Reader → List ℕ
+line_at r = take r.held r.line.now
 
 -- Room for a line, 64 tasks and the longest log.
-unfoldable pub is_roomy : Waiting → List ℕ → List ℕ → List ℕ → List ℕ → List ℕ → Bool
-is_roomy w es ps ks log line = has_room w.kept es ps ks log && leb w.held line_most && leb line_most (length line)
+unfoldable pub is_roomy : Reader → Bool
+is_roomy r = has_room r.kept && leb r.held line_most && leb line_most (length r.line.now)
+
+-- as facts
+abbrev pub HasLine : Reader → Type 0
+HasLine r = (r.held ≤ line_most) × (line_most ≤ length r.line.now)
+
+abbrev pub IsRoomy : Reader → Type 0
+IsRoomy r = HasRoom r.kept × HasLine r
+
+-- The lent lists are the caller's all along.
+abbrev pub SameReader : Reader → Reader → Type 0
+SameReader a b = SameLists a.kept b.kept × (b.line.ghost_name ≡ a.line.ghost_name) × (length b.line.now ≡ length a.line.now)
 
 -- How many bytes of a piece are taken where so much room is left for answers: a byte is taken if the longest answer has room.
 unfoldable pub reach : ℕ → Session → List ℕ → List ℕ → ℕ

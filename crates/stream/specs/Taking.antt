@@ -5,6 +5,11 @@ use Rattle.frames.specs.Session.{Session}
 use Rattle.frames.specs.Transcript.{answer_to}
 use Rattle.frames.specs.Stream.{with_byte}
 
+-- The line at hand after more bytes of it.
+unfoldable pub hold : List ℕ → List ℕ → List ℕ
+hold line [] = line
+hold line (b ∷ bs) = hold (with_byte line b) bs
+
 -- The line at hand after the bytes up to a line feed or the piece's end, how many bytes that takes, and whether a line feed ended it.
 pub record Scan : Type 0 where
   pub line : List ℕ

@@ -1,53 +1,50 @@
 -- `finish` meets its contract: there is no line at hand, no room, or the line is answered. Assumes nothing.
-use mathlib.Core.Path.{sym, ap, ◌∙◌}
-use native.Mathlib.Omega.{arith}
-use lib.ListN.{length}
-use lib.Seq.{sets, length-take-le}
-use Rattle.stream.specs.Pieces.{session_at, line_at, is_roomy}
-use Rattle.stream.proofs.Rooms.{roomy_parts}
+use mathlib.Core.Path.{◌≡◌, refl, sym, ap, ◌∙◌}
+use Prim.Native.Nat.{◌<◌}
+use mathlib.Core.List.{[]}
+use borrow.Author.Rules.{rules}
+use lib.ListN.{length, take-append-drop}
+use lib.Seq.{sets}
+use Rattle.frames.specs.Replies.{Reply}
+use Rattle.stream.specs.Pieces.{session_at, line_at, is_roomy, IsRoomy, ended_by}
+use Rattle.frames.proofs.Room.{roomy, is_roomy as has_room_is}
+use Rattle.stream.proofs.Rooms.{roomy_is, not_roomy}
 use Rattle.stream.proofs.Steps.{answer_fits, ended_none, ended_no_room, ended_line}
+use Rattle.stream.proofs.finish.Goals.{then-reader-eq0-via-then-reader-eq0, then-reader-eq0-via-else-reader-eq0+then-not-is_roomy}
 use Rattle.stream.proofs.finish.Goals as goal
 
-pub returns-then-held-eq0 : goal.returns-then-held-eq0
-returns-then-held-eq0 c =
-    let a = c.args in
-    let none = ended_none (is_roomy a.waiting a.requirements.now a.periods.now a.counts.now a.log.now a.line.now) (session_at a.waiting a.requirements.now a.periods.now a.counts.now) a.line.now a.waiting.held c.if-held-eq0.true in
+pub returns-then-reader-eq0 : goal.returns-then-reader-eq0
+returns-then-reader-eq0 c =
+    let r = c.args.reader.now in
+    let nothing : Reply = record { session = session_at r; text = [] } in
+    let none : nothing ≡ ended_by (is_roomy r) (session_at r) (line_at r) =
+    elim c.then-reader-eq0.branch [
+      | then-reader-eq0-via-then-reader-eq0 w ↦ ended_none (is_roomy r) (session_at r) r.line.now r.held w.if-reader-eq0.true
+      | then-reader-eq0-via-else-reader-eq0+then-not-is_roomy w ↦ ended_no_room (is_roomy r) (session_at r) (line_at r) (not_roomy r (λ h. search rules))
+    ] in
     record {
-      session = ap (λ r. r.session) none;
-      text = ap (λ r. sets a.out.now 0 r.text) none;
-      size = ap (λ r. length r.text) none;
-      small = omega arith;
+      same = search rules;
+      line = search rules;
+      session = ap (λ x. x.session) none;
+      text = ap (λ x. sets c.args.out.now 0 x.text) none;
+      size = ap (λ x. length x.text) none;
+      small = search rules;
+      roomy = refl;
     }
-
-pub returns-then-not-is_roomy : goal.returns-then-not-is_roomy
-returns-then-not-is_roomy c =
-    let a = c.args in
-    let none = ended_no_room (is_roomy a.waiting a.requirements.now a.periods.now a.counts.now a.log.now a.line.now) (session_at a.waiting a.requirements.now a.periods.now a.counts.now) (line_at a.waiting a.line.now) (sym c.is_roomy.ensures ∙ c.if-not-is_roomy.true) in
-    record {
-      session = ap (λ r. r.session) none;
-      text = ap (λ r. sets a.out.now 0 r.text) none;
-      size = ap (λ r. length r.text) none;
-      small = omega arith;
-    }
-
-pub slice_bounds-answer-end : goal.slice_bounds-answer-end
-slice_bounds-answer-end c =
-    let a = c.args in
-    let room = roomy_parts a.waiting a.requirements.now a.periods.now a.counts.now a.log.now a.line.now (sym c.is_roomy.ensures ∙ c.if-not-is_roomy.false) in
-    sym (length-take-le _ _ (omega (arith, room.1, room.2)))
 
 pub returns : goal.returns
 returns c =
-    let r = c.answer in
-    let a = c.args in
-    let roomy = sym c.is_roomy.ensures ∙ c.if-not-is_roomy.false in
-    let room = roomy_parts a.waiting a.requirements.now a.periods.now a.counts.now a.log.now a.line.now roomy in
-    let some = c.if-held-eq0.false in
-    let said = ended_line (is_roomy a.waiting a.requirements.now a.periods.now a.counts.now a.log.now a.line.now) a.waiting.kept a.requirements.now a.periods.now a.counts.now a.log.now a.line.now a.waiting.held roomy room.0 (omega (arith, some)) (omega (arith, room.1, room.2)) in
-    let small = answer_fits a.waiting.kept a.requirements.now a.periods.now a.counts.now a.log.now (line_at a.waiting a.line.now) room.0 _ r.ensures.size in
+    let r = c.args.reader.now in
+    let a = c.answer in
+    let room : IsRoomy r = search rules in
+    let some : 0 < r.held = search rules in
+    let said = ended_line (is_roomy r) r.kept r.line.now r.held (roomy_is r room) room.0 some (search rules) in
     record {
-      session = r.ensures.session ∙ ap (λ x. x.session) said;
-      text = r.ensures.text ∙ ap (λ x. sets a.out.now 0 x.text) said;
-      size = r.ensures.size ∙ ap (λ x. length x.text) said;
-      small = small;
+      same = search rules;
+      line = (refl, take-append-drop r.held r.line.now);
+      session = a.ensures.session ∙ ap (λ x. x.session) said;
+      text = a.ensures.text ∙ ap (λ x. sets c.args.out.now 0 x.text) said;
+      size = a.ensures.size ∙ ap (λ x. length x.text) said;
+      small = answer_fits r.kept (line_at r) room.0 a.result a.ensures.size;
+      roomy = roomy_is _ (roomy a.new.kept (a.ensures.room ∙ has_room_is r.kept room.0), (search rules, search rules)) ∙ sym (roomy_is r room);
     }

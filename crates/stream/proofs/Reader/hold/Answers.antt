@@ -1,0 +1,15 @@
+-- `hold` meets its contract: the bytes that are held stand after the others. Assumes nothing.
+use mathlib.Core.Path.{ap, ◌∙◌}
+use borrow.Author.Rules.{rules}
+use lib.ListN.{take}
+use mathlib.Core.List.{◌++◌}
+use Rattle.std.proofs.lemmas.Slice.{take-put_mid}
+use Rattle.stream.proofs.Taking.{held_part}
+use Rattle.stream.proofs.Reader.hold.Goals as goal
+
+pub returns-clause-line : goal.returns-clause-line
+returns-clause-line c =
+    let r = c.args.self.now in
+    take-put_mid r.held _ r.line.now _ _ (search rules) (search rules)
+    ∙ ap (λ l. take r.held r.line.now ++ l) c.copy_from_slice.ensures.after
+    ∙ held_part r.line.now c.args.bytes.now r.held c.min-n.result c.requires.0 (search rules) c.min-n.ensures
