@@ -1,9 +1,7 @@
 // A case for each entry: a line for what is asked, and a line for the answer.
-ghost use Rattle.std.specs.Prelude.{◌*◌, ◌^◌, ◌<◌};
-
 use crate::show::{
-    self, Admitted, Answer, Choice, Compared, Dealt, Fraction, Marks, Numbers, Refused, Set,
-    Standing, Units,
+    self, Admitted, Alike, Answer, Choice, Compared, Dealt, Fraction, Marks, Numbers, Refused, Set,
+    Standing,
 };
 use rule::Weight;
 
@@ -13,22 +11,10 @@ pub fn admission(rt: &impl Print, set: Set<'_>) {
     admitted(rt, set);
 }
 
-// Admission of a set of N tasks that are all alike.
-pub fn alike<const N: usize>(rt: &impl Print, task: Weight, m: u32)
-    requires fits_in_memory { 4 * N < 2 ^ 63 }
-{
-    show::line(
-        rt,
-        format_args!("{N} tasks of {} on {}", Fraction(task), Units(m)),
-    );
-    admitted(
-        rt,
-        Set {
-            requirements: &[task.e; N],
-            periods: &[task.p; N],
-            m,
-        },
-    );
+// Admission of a set whose tasks are all alike.
+pub fn alike(rt: &impl Print, set: Set<'_>) {
+    show::line(rt, Alike(set));
+    admitted(rt, set);
 }
 
 fn admitted(rt: &impl Print, set: Set<'_>) {

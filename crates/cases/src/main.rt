@@ -50,10 +50,29 @@ fn multiples(rt: &impl Print) {
 // The most tasks and one more, the most units and one more.
 fn tasks_and_units(rt: &impl Print) {
     show::line(rt, "\nThe limits of tasks and units");
-    ask::alike::<64>(rt, Weight { e: 1, p: 64 }, 1);
-    ask::alike::<65>(rt, Weight { e: 1, p: 65 }, 1);
-    ask::alike::<64>(rt, Weight { e: 1, p: 2 }, 32);
-    ask::alike::<64>(rt, Weight { e: 1, p: 2 }, 33);
+    let halves = Set {
+        requirements: &[1; 64],
+        periods: &[2; 64],
+        m: 32,
+    };
+    ask::alike(
+        rt,
+        Set {
+            periods: &[64; 64],
+            m: 1,
+            ..halves
+        },
+    );
+    ask::alike(
+        rt,
+        Set {
+            requirements: &[1; 65],
+            periods: &[65; 65],
+            m: 1,
+        },
+    );
+    ask::alike(rt, halves);
+    ask::alike(rt, Set { m: 33, ..halves });
 }
 
 // The paper's set, on enough units and on one too few.

@@ -37,6 +37,25 @@ impl fmt::Display for Set<'_> {
     }
 }
 
+// A set whose tasks are all alike: their number, the first of them, and the units.
+#[derive(Clone, Copy)]
+pub struct Alike<'a>(pub Set<'a>);
+
+impl fmt::Display for Alike<'_> {
+    fn fmt<W: fmt::Write>(&self, f: &mut fmt::Formatter<W>) -> fmt::Result {
+        let Set {
+            requirements,
+            periods,
+            m,
+        } = self.0;
+        write!(f, "{} tasks of ", requirements.len())?;
+        if let (Some(&e), Some(&p)) = (requirements.first(), periods.first()) {
+            write!(f, "{}", Fraction(Weight { e, p }))?;
+        }
+        write!(f, " on {}", Units(m))
+    }
+}
+
 // A set at a time, with its counts.
 #[derive(Clone, Copy)]
 pub struct Standing<'a> {
