@@ -2,10 +2,10 @@
 #![tactic(auto)]
 
 ghost use Rattle.std.specs.Prelude.{◌≡◌, ◌≤◌, length};
-ghost use Rattle.rule.specs.Outcomes.{admission, listing};
+ghost use Rattle.rule.specs.Outcomes.{listing};
 ghost use Rattle.listing.specs.Marks.{mark_by, marks_by};
 
-use rule::{Accepted, Refusal};
+use rule::Refusal;
 use standing::Rung;
 
 const AHEAD: u8 = 0x41;
@@ -35,34 +35,6 @@ fn write_marks(rungs: &[Rung], bytes: &mut [u8])
     }
 }
 
-// The listing of a set that admission accepts.
-fn list_accepted(
-    requirements: &[u32],
-    periods: &[u32],
-    counts: &[u32],
-    bytes: &mut [u8],
-    accepted: Accepted,
-    m: u32,
-    t: u32,
-) -> Result<(), Refusal>
-    requires admitted { admission requirements.now periods.now m ≡ Ok accepted }
-    requires same_length { (length counts.now ≡ length requirements.now) × (length bytes.old ≡ length requirements.now) }
-    ensures answer { result ≡ (listing requirements.now periods.now counts.now bytes.old m t).answer }
-    ensures bytes { bytes.new ≡ (listing requirements.now periods.now counts.now bytes.old m t).bytes }
-{
-    let spare = accepted.spare;
-    let laid = field::lay_out(requirements, periods, spare);
-    let rungs = standing::judge(
-        accepted.units,
-        laid.requirements(),
-        laid.periods(),
-        counts,
-        t,
-    )?;
-    write_marks(&rungs, bytes);
-    Ok(())
-}
-
 // The listing of a set on m units at time t: refusals 1 to 8, or a byte for each task that says how it stands.
 pub fn list(
     requirements: &[u32],
@@ -83,5 +55,14 @@ pub fn list(
         return Err(Refusal::Lengths);
     }
     let accepted = admission::admit(requirements, periods, m)?;
-    list_accepted(requirements, periods, counts, bytes, accepted, m, t)
+    let laid = field::lay_out(requirements, periods, accepted.spare);
+    let rungs = standing::judge(
+        accepted.units,
+        laid.requirements(),
+        laid.periods(),
+        counts,
+        t,
+    )?;
+    write_marks(&rungs, bytes);
+    Ok(())
 }

@@ -7,13 +7,13 @@ ghost use Rattle.rule.specs.Places.{at, bit, count, each};
 ghost use Rattle.rule.specs.Sets.{weight};
 ghost use Rattle.rule.specs.Task.{compare};
 ghost use Rattle.rule.specs.Slot.{goes_first};
-ghost use Rattle.rule.specs.Outcomes.{admission, slot as slot_of};
+ghost use Rattle.rule.specs.Outcomes.{slot as slot_of};
 ghost use Rattle.standing.specs.declared.Rung.{Rung};
 ghost use Rattle.standing.specs.Judged.{rung_at};
 ghost use Rattle.slot.specs.Rungs.{Choosing, Cut, is_urgent, contends, urgent_to, contending_to, on_contending, goes_before, rank_to, chosen_by, dealt_rungs};
 ghost use Rattle.slot.specs.Deal.{dealt};
 
-use rule::{Accepted, Order, Refusal, Weight};
+use rule::{Order, Refusal, Weight};
 use standing::Rung;
 
 // The lists of a field and the rungs of its places, at a time.
@@ -231,34 +231,6 @@ pub fn deal(
     field.deal(units as usize, counts, bytes)
 }
 
-// One slot of a set that admission accepts.
-fn deal_accepted(
-    requirements: &[u32],
-    periods: &[u32],
-    counts: &mut [u32],
-    bytes: &mut [u8],
-    accepted: Accepted,
-    m: u32,
-    t: u32,
-) -> Result<(), Refusal>
-    requires admitted { admission requirements.now periods.now m ≡ Ok accepted }
-    requires same_length { (length counts.old ≡ length requirements.now) × (length bytes.old ≡ length requirements.now) }
-    ensures answer { result ≡ (slot_of requirements.now periods.now counts.old bytes.old m t).answer }
-    ensures counts { counts.new ≡ (slot_of requirements.now periods.now counts.old bytes.old m t).counts }
-    ensures bytes { bytes.new ≡ (slot_of requirements.now periods.now counts.old bytes.old m t).bytes }
-{
-    let spare = accepted.spare;
-    let laid = field::lay_out(requirements, periods, spare);
-    deal(
-        accepted.units,
-        laid.requirements(),
-        laid.periods(),
-        counts,
-        bytes,
-        t,
-    )
-}
-
 // One slot of a set on m units at time t: refusals 1 to 9, or the choice in the counts and in a byte for each task.
 pub fn slot(
     requirements: &[u32],
@@ -280,5 +252,13 @@ pub fn slot(
         return Err(Refusal::Lengths);
     }
     let accepted = admission::admit(requirements, periods, m)?;
-    deal_accepted(requirements, periods, counts, bytes, accepted, m, t)
+    let laid = field::lay_out(requirements, periods, accepted.spare);
+    deal(
+        accepted.units,
+        laid.requirements(),
+        laid.periods(),
+        counts,
+        bytes,
+        t,
+    )
 }

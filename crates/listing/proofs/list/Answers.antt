@@ -3,7 +3,7 @@ use mathlib.Core.Path.{sym, ◌∙◌}
 use mathlib.Core.List.{[], ◌∷◌}
 use lib.ListN.{length}
 use Rattle.rule.proofs.Refusals.{differ_here, differ_later}
-use Rattle.listing.proofs.Accepted.{parts, listing_lengths, listing_refused}
+use Rattle.listing.proofs.Accepted.{parts, listing_lengths, listing_refused, listing_not_judged, rungs_cover, listing_marked}
 use Rattle.std.proofs.Common.{rules}
 use Rattle.listing.proofs.list.Goals as goal
 
@@ -30,12 +30,6 @@ returns-then-bytes-n c =
       bytes = r.1;
     }
 
-pub list_accepted-requires : goal.list_accepted-requires
-list_accepted-requires c = record {
-  admitted = sym c.admit.ensures ∙ c.in_ok-accepted.was;
-  same_length = (c.if-counts-n.false, c.if-bytes-n.false);
-}
-
 pub returns-in_err-accepted : goal.returns-in_err-accepted
 returns-in_err-accepted c =
     let a = c.args in
@@ -44,5 +38,37 @@ returns-in_err-accepted c =
     (sym c.admit.ensures ∙ c.in_err-accepted.was)) in
     record {
       answer = search (rules, r.0);
+      bytes = r.1;
+    }
+
+pub returns-in_err-rungs : goal.returns-in_err-rungs
+returns-in_err-rungs c =
+    let a = c.args in
+    let judged = rw (c.requirements.ensures, c.periods.ensures) at c.judge.ensures in
+    let r = parts
+    (listing_not_judged a.requirements.now a.periods.now a.counts.now a.bytes.now a.m a.t c.if-counts-n.false c.if-bytes-n.false
+    c.in_ok-accepted.accepted (sym c.admit.ensures ∙ c.in_ok-accepted.was) c.lay_out-laid.result c.lay_out-laid.ensures c.judge.result judged _ c.in_err-rungs.was) in
+    record {
+      answer = search (rules, r.0);
+      bytes = r.1;
+    }
+
+pub write_marks-requires : goal.write_marks-requires
+write_marks-requires c =
+    let a = c.args in
+    let judged = rw (c.requirements.ensures, c.periods.ensures) at c.judge.ensures in
+    rungs_cover a.requirements.now a.periods.now a.counts.now a.bytes.now a.m a.t c.if-counts-n.false c.if-bytes-n.false
+    c.in_ok-accepted.accepted (sym c.admit.ensures ∙ c.in_ok-accepted.was) c.lay_out-laid.result c.lay_out-laid.ensures c.judge.result judged c.in_ok-rungs.rungs c.in_ok-rungs.was
+
+pub returns : goal.returns
+returns c =
+    let a = c.args in
+    let judged = rw (c.requirements.ensures, c.periods.ensures) at c.judge.ensures in
+    let r = parts
+    (listing_marked a.requirements.now a.periods.now a.counts.now a.bytes.now a.m a.t c.if-counts-n.false c.if-bytes-n.false
+    c.in_ok-accepted.accepted (sym c.admit.ensures ∙ c.in_ok-accepted.was) c.lay_out-laid.result c.lay_out-laid.ensures c.judge.result judged
+    c.in_ok-rungs.rungs c.in_ok-rungs.was _ c.write_marks.ensures.bytes) in
+    record {
+      answer = r.0;
       bytes = r.1;
     }

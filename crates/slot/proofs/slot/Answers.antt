@@ -4,7 +4,7 @@ use mathlib.Core.List.{[], ◌∷◌}
 use lib.ListN.{length}
 use Rattle.rule.proofs.Refusals.{differ_here, differ_later}
 use Rattle.slot.proofs.Parts.{parts}
-use Rattle.slot.proofs.Accepted.{slot_lengths, slot_refused}
+use Rattle.slot.proofs.Accepted.{slot_lengths, slot_refused, dealt_set}
 use Rattle.std.proofs.Common.{rules}
 use Rattle.slot.proofs.slot.Goals as goal
 
@@ -33,12 +33,6 @@ returns-then-bytes-n c =
       bytes = r.1.1;
     }
 
-pub deal_accepted-requires : goal.deal_accepted-requires
-deal_accepted-requires c = record {
-  admitted = sym c.admit.ensures ∙ c.in_ok-accepted.was;
-  same_length = (c.if-counts-n.false, c.if-bytes-n.false);
-}
-
 pub returns-in_err-accepted : goal.returns-in_err-accepted
 returns-in_err-accepted c =
     let a = c.args in
@@ -49,4 +43,17 @@ returns-in_err-accepted c =
       answer = search (rules, r.0);
       counts = r.1.0;
       bytes = r.1.1;
+    }
+
+pub returns : goal.returns
+returns c =
+    let a = c.args in
+    let same = parts
+    (dealt_set a.requirements.now a.periods.now a.counts.now a.bytes.now a.m a.t c.if-counts-n.false c.if-bytes-n.false
+    c.in_ok-accepted.accepted (sym c.admit.ensures ∙ c.in_ok-accepted.was) c.lay_out-laid.result c.lay_out-laid.ensures) in
+    let laid = rw (c.requirements.ensures, c.periods.ensures) at c.deal.ensures in
+    record {
+      answer = laid.answer ∙ same.0;
+      counts = laid.counts ∙ same.1.0;
+      bytes = laid.bytes ∙ same.1.1;
     }
