@@ -47,18 +47,21 @@ impl Kept<'_> {
 }
 
 // How much of the log a run takes: nothing where it is too long.
+#[tactic(auto, using(std::proofs::lemmas::Bool::Decides::nat_tests))]
 fn log_size(slots: u32, n: usize) -> usize
     requires { n ≤ 64 }
     ensures size { result ≡ cond (ltb slots_most slots) 0 (slots * n) }
     ensures fits { result ≤ log_most }
 {
     if slots > rule::SLOTS_MOST {
-        return 0;
+        0
+    } else {
+        slots as usize * n
     }
-    slots as usize * n
 }
 
-// The answer to a run of the set in force.
+// The answer to a run of the set in force. Its lists are lent as `&mut` one and all, here and below: the checker follows several slices
+// of one struct only so.
 fn ran(kept: &mut Kept<'_>, set: InForce, slots: u32, out: &mut [u8]) -> usize
     requires in_force { kept.old.set ≡ Some set }
     requires room { HasRoom kept.old }

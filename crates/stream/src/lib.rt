@@ -127,6 +127,7 @@ pub fn feed(reader: &mut Reader<'_>, piece: &[u8], out: &mut [u8]) -> Fed
     if !reader.is_roomy() {
         return Fed { at, size };
     }
+    // It stays a `while`: how far a turn goes is for its line to say.
     while at < piece.len() && out.len() - size >= ANSWER_MOST {
         let fed = reader.next(&piece[at..], &mut out[size..]);
         at += fed.at;
