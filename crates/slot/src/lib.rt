@@ -87,7 +87,8 @@ impl Field<'_> {
         }
     }
 
-    // Does place j contend and go before place i?
+    // Does place j contend and go before place i? Asked for each pair of contenders, so that a call of its own would tell.
+    #[inline(always)]
     fn before(&self, j: usize, i: usize) -> bool
         requires in_bounds { (j < length self.now.requirements.now) × (i < length self.now.requirements.now) }
         ensures { let f = self.now in result ≡ (on_contending f.rungs.now j && goes_before f.requirements.now f.periods.now f.t j i) }
