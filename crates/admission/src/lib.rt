@@ -9,6 +9,7 @@ ghost use Rattle.rule.specs.Outcomes.{admission, admission_by};
 ghost use Rattle.rule.proofs.Sets.{ValidSet};
 ghost use Rattle.admission.specs.Parts.{acceptance_of, spare_of};
 
+use numbers::Fraction;
 use rule::{Accepted, Refusal, Weight};
 
 // M, L and the spare of a set on m units, or the first refusal of 1 to 6 that holds.
@@ -82,15 +83,13 @@ fn accept(load: u32, multiple: u32) -> Accepted
 }
 
 // The spare that takes this room of L, in lowest terms; nobody where there is no room.
+#[tactic(auto, unfolding(crate::specs::Parts::spare_of, numbers::specs::Divide::lowest_terms))]
 fn spare_of(room: u32, multiple: u32) -> Option<Weight>
     ensures { result ≡ spare_of room multiple }
 {
     if room == 0 {
         return None;
     }
-    let weight = numbers::lowest_terms(room, multiple);
-    Some(Weight {
-        e: weight.above,
-        p: weight.below,
-    })
+    let Fraction { above, below } = numbers::lowest_terms(room, multiple);
+    Some(Weight { e: above, p: below })
 }
