@@ -10,6 +10,8 @@ ghost use Rattle.frames.specs.Replies.{reply};
 ghost use Rattle.frames.specs.Keeping.{session_of, log_most, tasks_of, has_room, HasRoom, SameLists, answered};
 
 use reading::Asked;
+use rule::Ran;
+use writing::Slots;
 
 // The set in force: how many tasks it has, on how many units, and the time.
 #[derive(Clone, Copy)]
@@ -78,13 +80,9 @@ fn ran(kept: &mut Kept<'_>, set: InForce, slots: u32, out: &mut [u8]) -> usize
     let counts = &mut kept.counts[..n];
     let log = &mut kept.log[..size];
     log.fill(0);
-    let run = run::run(slots, requirements, periods, counts, log, m, t);
-    kept.set = Some(InForce {
-        n,
-        m,
-        t: t + run.done,
-    });
-    writing::put_run(out, run.done, n, t, log, run.end)
+    let Ran { done, end } = run::run(slots, requirements, periods, counts, log, m, t);
+    kept.set = Some(InForce { n, m, t: t + done });
+    writing::put_run(out, Slots { done, n, t, log }, end)
 }
 
 // The answer to a listing of the set in force, whose bytes are made in the log.

@@ -5,6 +5,7 @@ use mathlib.Core.Bool.{Bool, true, false, cond}
 use mathlib.Core.List.{List, [], ◌∷◌, ◌++◌}
 use Prim.Native.Nat.{ℕ, zero, suc, ◌+◌, ◌*◌, ◌≤◌}
 use native.Mathlib.Omega.{arith}
+use borrow.Author.Tests.{leb-true}
 use lib.Dec.{eqb}
 use lib.ListN.{length, take, drop, length-append, length-take}
 use Rattle.std.specs.List.{count_by}
@@ -12,12 +13,14 @@ use Rattle.std.proofs.lemmas.List.Sums.{sum_by-cons, count_by-le-length}
 use Rattle.rule.specs.declared.Weight.{Weight}
 use Rattle.rule.specs.declared.Accepted.{Accepted}
 use Rattle.rule.specs.declared.Refusal.{Refusal}
+use Rattle.rule.specs.Limits.{tasks_most, slots_most}
+use Rattle.rule.proofs.Tests.{both_true}
 use Rattle.digits.specs.Digits.{digits_of}
 use Rattle.digits.specs.Fields.{field}
 use Rattle.digits.proofs.Digits.{length_digits}
 use Rattle.digits.proofs.Fields.{length_field}
 use Rattle.writing.specs.AnswerLines.{line_of, refusal_line, malformed_line, spare_bytes, accepted_line}
-use Rattle.writing.specs.AnswerLines.{places_from, slot_line, slot_lines, end_line}
+use Rattle.writing.specs.AnswerLines.{places_from, slot_line, slot_lines, end_line, run_fits_in}
 
 pub length_line : (bytes : List ℕ) → length (line_of bytes) ≡ 2 * length bytes + 1
 unfolding line_of
@@ -79,5 +82,11 @@ unfolding end_line
 end_small (Ok tt) = omega arith
 end_small (Err r) = let seven = length_refusal r in omega arith
 
+-- What a run that fits keeps to.
+pub within_room : (slots n t size : ℕ) → run_fits_in slots n t size ≡ true
+    → (slots ≤ slots_most) × (n ≤ tasks_most) × (slots * n ≤ size) × (t + slots ≤ 4294967295)
+unfolding run_fits_in
+within_room slots n t size fits = grind (arith, leb-true, both_true)
+
 -- What the bounds on a writer's place need.
-pub ruleset sizes = (length-take, length_digits, length_field, length_spare, places_few, slots_small)
+pub ruleset sizes = (length-take, length_digits, length_field, length_spare, places_few, slots_small, within_room)

@@ -1,25 +1,17 @@
--- What the public functions write where the input fits, and what a run that fits keeps to. Assumes nothing.
+-- What the public functions write where the input fits. Assumes nothing.
 use mathlib.Core.Path.{◌≡◌}
-use mathlib.Core.Bool.{true}
 use mathlib.Core.List.{List, ◌++◌}
 use Prim.Native.Nat.{ℕ, ◌+◌, ◌*◌, ◌≤◌}
-use native.Mathlib.Omega.{arith}
-use borrow.Author.Tests.{le-leb, leb-true}
+use borrow.Author.Tests.{le-leb}
 use lib.ListN.{length}
 use Rattle.std.specs.Prelude.{Result}
 use Rattle.rule.specs.declared.Refusal.{Refusal}
 use Rattle.rule.specs.Limits.{tasks_most, slots_most}
-use Rattle.rule.proofs.Tests.{both_true}
 use Rattle.writing.specs.AnswerLines.{listing_line, slot_lines, end_line, listing_text, run_fits_in, run_text}
 
 pub listing_fits : (t : ℕ) (bytes : List ℕ) → length bytes ≤ tasks_most → listing_text t bytes ≡ listing_line t bytes
 unfolding listing_text
 listing_fits t bytes few = rw (le-leb (length bytes) tasks_most few)
-
-pub within_room : (slots n t size : ℕ) → run_fits_in slots n t size ≡ true
-    → (slots ≤ slots_most) × (n ≤ tasks_most) × (slots * n ≤ size) × (t + slots ≤ 4294967295)
-unfolding run_fits_in
-within_room slots n t size fits = grind (arith, leb-true, both_true)
 
 pub run_fits : (slots n t : ℕ) (log : List ℕ) (end : Result Unit Refusal)
     → slots ≤ slots_most → n ≤ tasks_most → slots * n ≤ length log → t + slots ≤ 4294967295

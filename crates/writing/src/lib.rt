@@ -2,7 +2,7 @@
 // a caller can tell.
 #![tactic(auto)]
 
-ghost use Rattle.std.specs.Prelude.{◌≡◌, [], ◌∷◌, ◌++◌, ◌+◌, ◌*◌, ◌^◌, ◌<◌, ◌≤◌, length};
+ghost use Rattle.std.specs.Prelude.{◌≡◌, [], ◌∷◌, ◌^◌, ◌<◌, ◌≤◌, true, length};
 ghost use Rattle.std.proofs.lemmas.List.Edits.{sets};
 ghost use Rattle.rule.specs.Answers.{carried_by};
 ghost use Rattle.digits.specs.Digits.{digits_of};
@@ -17,6 +17,29 @@ const LINE_FEED: u8 = 0x0A;
 
 // Where a refusal names no place.
 const NO_PLACE: u32 = 0xFF;
+
+// The slots that a run did: how many, of how many tasks each, from which time on, and the bytes of all of them.
+#[derive(Clone, Copy)]
+pub struct Slots<'a> {
+    pub done: u32,
+    pub n: usize,
+    pub t: u32,
+    pub log: &'a [u8],
+}
+
+impl Slots<'_> {
+    // Can their lines be written: are they within the limits, has the log the bytes of them all, and are their times of four bytes?
+    #[tactic(auto, unfolding(crate::specs::AnswerLines::run_fits_in))]
+    fn fit(&self) -> bool
+        ensures { let s = self.now in result ≡ run_fits_in s.done s.n s.t (length s.log.now) }
+    {
+        // Within the limits the product is no more than 65,536. The sum is in 64 bits, since it may be no u32.
+        self.done <= rule::SLOTS_MOST
+            && self.n <= rule::TASKS_MOST
+            && self.done as usize * self.n <= self.log.len()
+            && self.t as u64 + self.done as u64 <= 0xFFFF_FFFF
+    }
+}
 
 // Where an answer is written: the lent buffer, and the place after what is written so far. Its methods bound the place only so that no sum
 // of places is too large for a usize.
@@ -154,14 +177,15 @@ impl<'a> Writer<'a> {
         self.end();
     }
 
-    // Writes the lines of so many slots of n tasks from time t on.
-    fn slots(&mut self, slots: u32, n: usize, t: u32, log: &[u8])
+    // Writes the lines of the slots.
+    fn slots(&mut self, slots: Slots<'_>)
         requires room { self.old.at < 2 ^ 33 }
-        requires limits { (slots ≤ 1024) × (n ≤ 64) × (slots * n ≤ length log.now) × (t + slots ≤ 4294967295) }
-        ensures { Writes self.old self.new (slot_lines slots n t log.now) }
+        requires fit { run_fits_in slots.done slots.n slots.t (length slots.log.now) ≡ true }
+        ensures { let s = slots.entry in Writes self.old self.new (slot_lines s.done s.n s.t s.log.now) }
     {
+        let Slots { done, n, t, log } = slots;
         // By places and not by `chunks`, which panics where n is 0: then each line names no task.
-        for slot in 0..slots {
+        for slot in 0..done {
             let from = slot as usize * n;
             self.slot(t + slot, &log[from..from + n]);
         }
@@ -177,16 +201,6 @@ impl<'a> Writer<'a> {
             Ok(()) => {}
             Err(refusal) => self.refused(refusal),
         }
-    }
-
-    // Writes the lines of a run: those of its slots, and that of its end.
-    fn run(&mut self, slots: u32, n: usize, t: u32, log: &[u8], end: Result<(), Refusal>)
-        requires room { self.old.at < 2 ^ 33 }
-        requires limits { (slots ≤ 1024) × (n ≤ 64) × (slots * n ≤ length log.now) × (t + slots ≤ 4294967295) }
-        ensures { Writes self.old self.new (slot_lines slots n t log.now ++ end_line end) }
-    {
-        self.slots(slots, n, t, log);
-        self.run_end(end);
     }
 }
 
@@ -253,36 +267,18 @@ pub fn put_listing(out: &mut [u8], t: u32, bytes: &[u8]) -> usize
     line.at
 }
 
-// Can the lines of a run be written: is it within the limits, has its log the bytes of all its slots, and are its times of four bytes?
-#[tactic(auto, unfolding(crate::specs::AnswerLines::run_fits_in))]
-fn run_fits(slots: u32, n: usize, t: u32, size: usize) -> bool
-    ensures { result ≡ run_fits_in slots n t size }
+// Writes the lines of the slots that a run did, and then that of the refusal that stopped it, if one did; answers their length. Where
+// the slots do not fit nothing is written.
+#[tactic(auto, unfolding(crate::specs::AnswerLines::run_text), using(crate::proofs::Sizes::sizes))]
+pub fn put_run(out: &mut [u8], slots: Slots<'_>, end: Result<(), Refusal>) -> usize
+    ensures out { let s = slots.entry in out.new ≡ sets out.old 0 (run_text s.done s.n s.t s.log.now end) }
+    ensures place { let s = slots.entry in result ≡ length (run_text s.done s.n s.t s.log.now end) }
 {
-    // Within the limits the product is no more than 65,536. The sum is in 64 bits, since it may be no u32.
-    slots <= rule::SLOTS_MOST
-        && n <= rule::TASKS_MOST
-        && slots as usize * n <= size
-        && t as u64 + slots as u64 <= 0xFFFF_FFFF
-}
-
-// Writes the lines of so many slots of n tasks from time t on, and then that of the refusal that stopped the run, if one did; answers
-// their length. Where the run does not fit nothing is written.
-#[tactic(auto, unfolding(crate::specs::AnswerLines::run_text), using(crate::proofs::Texts::within_room))]
-pub fn put_run(
-    out: &mut [u8],
-    slots: u32,
-    n: usize,
-    t: u32,
-    log: &[u8],
-    end: Result<(), Refusal>,
-) -> usize
-    ensures out { out.new ≡ sets out.old 0 (run_text slots n t log.now end) }
-    ensures place { result ≡ length (run_text slots n t log.now end) }
-{
-    if !run_fits(slots, n, t, log.len()) {
+    if !slots.fit() {
         return 0;
     }
     let mut lines = Writer::new(out);
-    lines.run(slots, n, t, log, end);
+    lines.slots(slots);
+    lines.run_end(end);
     lines.at
 }

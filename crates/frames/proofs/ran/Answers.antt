@@ -20,7 +20,7 @@ overflow_add-kept c =
     let k = c.args.kept.now in
     let s = c.args.set in
     let size = c.log_size-size in
-    let run = c.run-run in
+    let run = c.run-done in
     -- the time is a u32
     let small : s.t ≤ 4294967295 = search rules in
     let whole = length-take-le s.n k.requirements.now (search rules) in
@@ -35,7 +35,7 @@ returns c =
     let k = c.args.kept.now in
     let s = c.args.set in
     let size = c.log_size-size in
-    let run = c.run-run in
+    let run = c.run-done in
     -- the time is a u32
     let small : s.t ≤ 4294967295 = search rules in
     let whole = length-take-le s.n k.requirements.now (search rules) in

@@ -14,9 +14,9 @@ loop-slot-init c = none _
 
 pub loop-slot-preserved : goal.loop-slot-preserved
 loop-slot-preserved c =
-    let n = c.args.n in
+    let n = c.args.slots.n in
     let from = c.loop-slot.slot * n in
-    let left = drop from c.args.log.now in
+    let left = drop from c.args.slots.log.now in
     let whole : from + n - from ≡ n = omega arith in
     let bytes : take (from + n - from) left ≡ take n left = ap (λ m. take m left) whole in
     rw (add-one, slots_more, ← bytes) (then c.loop-slot.invariant c.slot.ensures)
