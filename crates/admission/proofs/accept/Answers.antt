@@ -5,14 +5,6 @@ use Rattle.numbers.proofs.Quotient.{round_up_least}
 use Rattle.admission.specs.Parts.{acceptance_of}
 use Rattle.admission.proofs.accept.Goals as goal
 
-pub overflow_mul-room : goal.overflow_mul-room
-unfolding round_up
-overflow_mul-room c = omega (arith, round_up_least c.args.load c.args.multiple c.requires.multiple_nonzero)
-
-pub overflow_sub-room : goal.overflow_sub-room
-unfolding round_up
-overflow_sub-room c = omega (arith, round_up_least c.args.load c.args.multiple c.requires.multiple_nonzero)
-
 pub returns : goal.returns
 unfolding acceptance_of round_up
 returns c = simp c.spare_of.ensures

@@ -40,11 +40,3 @@ returns-in_err-multiple c =
     let rest = rest_le_lcm_all ps (length ps - (length c.loop-period.yielded + 1)) (λ k h. omega (arith, eqb-false _ 0 (positive k 0 (omega arith) h))) in
     let told = c.in_err-multiple.was in
     grind (arith, nat_tests)
-
-pub returns : goal.returns
-returns c =
-    let ps = c.args.periods.now in
-    let end = YieldsList-end (YieldsList-from_rev_slice ps cc) c.loop-period.yielded _ c.loop-period.yielded_by _ _ c.in-None.is c.next.ensures.steps in
-    let whole : length ps - length c.loop-period.yielded ≡ 0 = omega (arith, length-reverse ps) in
-    let e = rw whole at c.loop-period.invariant in
-    cc

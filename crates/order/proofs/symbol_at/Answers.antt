@@ -8,18 +8,6 @@ use Rattle.rule.specs.Task.{sign}
 use Rattle.order.proofs.Signs.{next_fits, floor_low, floor_fits, symbol_is}
 use Rattle.order.proofs.symbol_at.Goals as goal
 
-pub overflow_mul-floor : goal.overflow_mul-floor
-overflow_mul-floor c = omega (arith, next_fits c.args.task.e c.args.task.p c.args.i c.requires c.ranges.i.fits)
-
-pub overflow_mul-e : goal.overflow_mul-e
-overflow_mul-e c = omega (arith, next_fits c.args.task.e c.args.task.p c.args.i c.requires c.ranges.i.fits)
-
-pub overflow_mul-p : goal.overflow_mul-p
-overflow_mul-p c = floor_fits _ _ (omega (arith, next_fits c.args.task.e c.args.task.p c.args.i c.requires c.ranges.i.fits))
-
-pub difference-requires : goal.difference-requires
-difference-requires c = (floor_low _ _ _ (omega arith), omega (arith, next_fits c.args.task.e c.args.task.p c.args.i c.requires c.ranges.i.fits), omega arith)
-
 pub returns : goal.returns
 returns c =
     let d = c.difference in

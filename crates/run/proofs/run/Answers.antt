@@ -30,13 +30,6 @@ returns-then-slots-eq0 c =
     parts (run_none _ _ _ _ _ _ _ c.if-slots-gt-SLOTS_MOST.false c.if-periods-n.false c.if-counts-n.false
     (eqb-true _ _ (sym c.is_log.ensures ∙ c.if-not-is_log.false)) c.if-slots-eq0.true)
 
-pub run_accepted-requires : goal.run_accepted-requires
-run_accepted-requires c =
-    record {
-      admitted = sym c.admit.ensures ∙ c.in-Ok.is;
-      lists_fit = (c.if-counts-n.false, eqb-true _ _ (sym c.is_log.ensures ∙ c.if-not-is_log.false), c.if-slots-gt-SLOTS_MOST.false);
-    }
-
 pub returns-in-Err : goal.returns-in-Err
 returns-in-Err c =
     rw c.stopped-in-Err.ensures (parts (run_not_admitted _ _ _ _ _ _ _ c.if-slots-gt-SLOTS_MOST.false c.if-periods-n.false c.if-counts-n.false
