@@ -5,7 +5,16 @@ use mathlib.Core.Bool.{Bool, true, false, not, ◌&&◌, ◌||◌}
 use mathlib.Core.List.{List, [], ◌∷◌}
 use mathlib.Core.Logic.{◌⊎◌, inl, inr}
 use mathlib.Core.Path.{◌≡◌, refl, sym, ap, ◌∙◌}
-use Prim.Native.Nat.{ℕ, ◌*◌, ◌-◌, ◌≤◌, ◌<◌}
+use Prim.Native.Nat.{ℕ, ◌*◌, ◌/◌, ◌-◌, ◌≤◌, ◌<◌}
+use denote.Ref.{Bor}
+use Rattle.std.proofs.iter.Yields.{fronts}
+use Rattle.std.proofs.lemmas.Iterator.{zips}
+use Rattle.std.proofs.lemmas.Slice.Zip.{zip_turn}
+use Rattle.std.specs.declared.iter.Zip.{Zip}
+use Rattle.std.specs.declared.slice.Iter.{Iter}
+use Rattle.std.specs.Iterator.{Yields}
+use Rattle.std.specs.Iterator.Adapters.{zip_first, zip_second}
+use Rattle.std.specs.Slice.Iter.{iter_rest}
 use native.Mathlib.Omega.{arith}
 use borrow.Author.Tests.{eqb-true, eq-eqb, ne_eqb, le-leb, lt-leb, lt-ltb, le-ltb}
 use lib.Dec.{eqb, leb, ltb}
@@ -17,11 +26,12 @@ use Rattle.rule.specs.declared.Accepted.{Accepted}
 use Rattle.rule.specs.declared.Refusal.{Refusal}
 use Rattle.rule.specs.declared.Refusal.TheVariants.{Multiple as too_large, Load}
 use Rattle.rule.specs.Limits.{within, bounded_by, tasks_most, units_most, period_most, multiple_most}
+use Rattle.rule.specs.Places.{at}
 use Rattle.rule.specs.Sets.{units_in_use, room, spare, multiple, load}
 use Rattle.rule.specs.Refusals.{Check, Verdict, passed, refused, first, differ, lengths, tasks, units, records, multiples, loads, invalid_place, set_checks, admission_checks}
 use Rattle.rule.specs.Outcomes.{acceptance, admission_by, admission}
 use Rattle.rule.proofs.Searches.{found_some, found_none, lowest_zip}
-use Rattle.rule.proofs.Sets.{invalid_place_le}
+use Rattle.rule.proofs.Sets.{invalid_place_le, ValidSet, period_pos, share_lt}
 use Rattle.rule.proofs.Refusals.{Given, this, next, NoneHolds, none, and, given_first, none_first, first_none, first_append}
 use Rattle.admission.specs.Parts.{spare_of, acceptance_of}
 
@@ -161,3 +171,24 @@ module _ (es ps : List ℕ) (m : ℕ) where
       go : (v : Verdict) → admission_by v es ps ≡ Err r → v ≡ refused r
       go passed q = absurd (let z : ◌≡◌ {A = ℕ} 0 1 = cc in omega arith)
       go (refused r') q = cc
+
+-- ---- the load
+
+-- What a turn over the requirements and the periods adds: the share of the record at the turn's place, which is below L.
+pub share_of_turn : (es ps : List ℕ) (set : ValidSet es ps) (xs : List (Bor ℕ × Bor ℕ)) (s t u : Zip (Iter ℕ) (Iter ℕ)) {r : Option (Bor ℕ × Bor ℕ)} {e p : Bor ℕ}
+    → iter_rest (zip_first s) ≡ es → iter_rest (zip_second s) ≡ ps → Yields (zips fronts fronts) s xs t → r ≡ Some (e, p) → zips fronts fronts t r u
+    → let share = e.now * multiple ps / p.now in
+    record {
+      here : length xs < length es;
+      period : 0 < p.now;
+      small : share < multiple ps;
+      placed : share ≡ at es (length xs) * multiple ps / at ps (length xs);
+    }
+share_of_turn es ps set xs s t u {r} {e} {p} these those so_far is steps =
+    let turn = zip_turn es ps xs s t u r these those so_far (e, p) is steps in
+    record {
+      here = turn.0;
+      period = rw (turn.3 0) (period_pos es ps set (length xs) turn.0);
+      small = rw (turn.2 0, turn.3 0) (share_lt es ps set (length xs) turn.0);
+      placed = rw (turn.2 0, turn.3 0);
+    }

@@ -59,9 +59,9 @@ fn load_of(requirements: &[u32], periods: &[u32], multiple: u32) -> u32
     ensures { result ≡ load_of requirements.now periods.now }
 {
     let mut load: u32 = 0;
-    for (i, &e) in requirements.iter().enumerate() {
+    for (&e, &p) in requirements.iter().zip(periods) {
         // As a u64, since e·L may be no u32.
-        load += (e as u64 * multiple as u64 / periods[i] as u64) as u32;
+        load += (e as u64 * multiple as u64 / p as u64) as u32;
     }
     load
 }

@@ -89,14 +89,12 @@ fn digit_of(v: u8) -> u8
 pub fn put_field(out: &mut [u8], at: usize, width: u8, value: u32)
     ensures { out.new ≡ sets out.old at (digits_of (field width value)) }
 {
-    // Past the end nothing is stored, and the place after the last digit may be no usize.
+    // Past the end nothing is stored, and a place there may be no usize.
     if at >= out.len() {
         return;
     }
-    let mut place = at;
-    for after in (0..width).rev() {
-        put_byte(out, place, byte_of(value, after));
-        place += 2;
+    for i in 0..width {
+        put_byte(out, at + 2 * usize::from(i), byte_of(value, width - 1 - i));
     }
 }
 

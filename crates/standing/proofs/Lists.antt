@@ -1,21 +1,22 @@
 -- A search over one place more, and a list written place by place: a store changes just the place that it names.
-use mathlib.Core.Bool.{Bool, true, false, cond}
+use mathlib.Core.Bool.{Bool, true, false, cond, not}
 use mathlib.Core.List.{List, [], ◌∷◌, map}
 use mathlib.Core.Logic.{◌≢◌}
 use mathlib.Core.Path.{◌≡◌, refl, sym, ap, ◌∙◌}
 use native.Mathlib.Decide.{ℕ_discrete}
 use Prim.Native.Nat.{ℕ, zero, suc, ◌+◌, ◌≤◌, ◌<◌}
+use native.Mathlib.Nat.{add-zero}
 use native.Mathlib.Numerals.{add-one}
 use native.Mathlib.Omega.{arith}
 use lib.Dec.{ltb}
 use lib.ListN.{length, length-set, set, get_or}
 use Rattle.std.proofs.lemmas.List.{get_or-set_same, get_or-set_other}
 use borrow.Author.Tests.{lt-ltb}
-use Rattle.std.specs.Prelude.{sum as list_sum}
-use Rattle.std.specs.List.{range_with_len}
-use Rattle.std.proofs.lemmas.List.FromFn.{fill_by_all, length-map-range_with_len, get_or-map-range_with_len}
+use Rattle.std.specs.Prelude.{position, sum as list_sum}
+use Rattle.std.specs.List.{range_with_len, position_or_len}
+use Rattle.std.proofs.lemmas.List.FromFn.{fill_by_all, length-range_with_len, length-map-range_with_len, get_or-map-range_with_len}
 use Rattle.std.proofs.lemmas.List.Sums.{sum_by-cons}
-use Rattle.rule.specs.Places.{at, sum, lowest}
+use Rattle.rule.specs.Places.{at, sum, lowest, found}
 use Rattle.rule.proofs.Places.{lowest_first, lowest_passes, lowest_found, lowest_none, with_last}
 use Rattle.rule.proofs.Tests.{ltb_ext}
 
@@ -31,6 +32,23 @@ module _ (n : ℕ) (test : ℕ → Bool) where
   pub lowest_never : n ≤ lowest n test → test n ≡ false → lowest (suc n) test ≡ suc n
   lowest_never h here =
       lowest_none (suc n) test (with_last {P = λ j. test j ≡ false} n here (λ j l. lowest_first n test j (omega arith)))
+
+first_range : (a n : ℕ) (test g : ℕ → Bool) → ((i : ℕ) → test (a + i) ≡ g i) → position_or_len test (range_with_len a n) ≡ lowest n g
+unfolding lowest
+first_range a zero test g h = refl
+first_range a (suc n) test g h =
+    let here : test a ≡ g 0 = rw add-zero at (h 0) in
+    let one : (i : ℕ) → a + 1 + i ≡ a + suc i = λ i. omega arith in
+    rw here (go (g 0) (first_range (a + 1) n test (λ i. g (suc i)) (λ i. rw (one i) (h (suc i)))))
+  where
+    go : {l m : ℕ} (b : Bool) → l ≡ m → cond (not b) (1 + l) 0 ≡ cond b 0 (suc m)
+    go true q = refl
+    go false q = omega arith
+
+-- The library's search of the first n places is the search for the lowest.
+pub lowest_range : (n : ℕ) (test : ℕ → Bool) → position test (range_with_len 0 n) ≡ found n (lowest n test)
+unfolding found
+lowest_range n test = rw (first_range 0 n test test (λ i. ap test (omega arith)), length-range_with_len)
 
 -- ---- a sum
 

@@ -138,16 +138,10 @@ impl Field<'_> {
     }
 
     // The lowest place of a task whose lag is out of bounds.
-    #[tactic(auto, using(rule::proofs::Searches::found_first, rule::proofs::Searches::found_nowhere), unfolding(rule::specs::Sets::task_at))]
     fn unfair_task(&self) -> Option<usize>
         ensures { let f = self.now in result ≡ found (length f.counts.now) (lowest (length f.counts.now) (λ i. not (fair f.t (task_at f.requirements.now f.periods.now f.counts.now i)))) }
     {
-        for (i, &k) in self.counts.iter().enumerate() {
-            if !self.task(i, u64::from(k)).is_fair() {
-                return Some(i);
-            }
-        }
-        None
+        (0..self.counts.len()).position(|i| !self.task(i, u64::from(self.counts[i])).is_fair())
     }
 
     // Is the spare's lag within its bounds, or where there is no spare, do the counts add up to M·t?

@@ -1,5 +1,5 @@
 use mathlib.Core.Path.{◌≡◌, sym, ◌∙◌}
-use Prim.Native.Nat.{suc, ◌-◌}
+use Prim.Native.Nat.{suc, ◌+◌, ◌-◌, ◌*◌}
 use native.Mathlib.Omega.{arith}
 use Rattle.digits.specs.Digits.{digits_of}
 use Rattle.digits.specs.Fields.{field}
@@ -12,16 +12,18 @@ returns-then-at-out c =
     let a = c.args in
     sym (sets_out _ _ (digits_of (field a.width a.value)) c.if-at-out.true)
 
-pub loop-after-preserved : goal.loop-after-preserved
-loop-after-preserved c =
-    let l = c.loop-after in
-    let w = l.after - 1 in
-    let more : suc w ≡ l.after = omega arith in
-    let next = field_stored l.out l.place w c.args.value in
-    record { place = omega arith; stored = rw (c.put_byte.ensures, c.byte_of.ensures) (next ∙ rw more l.invariant.stored) }
+pub loop-i-preserved : goal.loop-i-preserved
+loop-i-preserved c =
+    let l = c.loop-i in
+    let a = c.args in
+    let w = a.width - 1 - l.i in
+    let more : a.width - l.i ≡ suc w = omega arith in
+    let left : a.width - (l.i + 1) ≡ w = omega arith in
+    let on : a.at + 2 * (l.i + 1) ≡ a.at + 2 * l.i + 2 = omega arith in
+    rw (left, on, c.put_byte.ensures, c.byte_of.ensures, c.from.ensures) (field_stored l.out (a.at + 2 * l.i) w a.value ∙ rw more at l.invariant)
 
 pub returns : goal.returns
 unfolding digits_of field
 returns c =
-    let none : c.loop-after.after ≡ 0 = omega arith in
-    rw none at c.loop-after.invariant.stored
+    let none : c.args.width - c.loop-i.i ≡ 0 = omega arith in
+    rw none at c.loop-i.invariant
