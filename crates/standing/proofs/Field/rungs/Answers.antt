@@ -30,16 +30,6 @@ overflow_sub-given c =
     rw (c.from.ensures, c.from-2.ensures)
     (spare_within f.units f.requirements.now f.periods.now f.counts.now f.t others.result others.ensures (c.requires.each_fair (length f.counts.now) (omega arith)))
 
-pub task-requires : goal.task-requires
-task-requires c =
-    let f = c.args.self.now in
-    let narrow = rw (← c.from.ensures, ← c.from-2.ensures) at (given_narrow f.units f.t f.few_units f.sound.early) in
-    let least = f.sound.least in
-    record {
-      in_bounds = omega arith;
-      narrow = omega arith;
-    }
-
 pub rung-requires : goal.rung-requires
 rung-requires c =
     let f = c.args.self.now in

@@ -3,17 +3,6 @@ use Rattle.rule.specs.Task.{fair}
 use Rattle.standing.proofs.Integers.{lag_fits, due_fits, done_fits, word_is, period_is, minus_fits, minus_period_is}
 use Rattle.standing.proofs.Task.is_fair.Goals as goal
 
-pub lag-lag-requires : goal.lag-lag-requires
-lag-lag-requires c =
-    let small = c.args.self.now.small in
-    record {
-      t_bound = due_fits small;
-      k_bound = done_fits small;
-    }
-
-pub overflow_sub-period : goal.overflow_sub-period
-overflow_sub-period c = minus_fits c.args.self.now.p c.args.self.now.small.limit
-
 pub returns-then-period-lag : goal.returns-then-period-lag
 unfolding fair
 returns-then-period-lag c =

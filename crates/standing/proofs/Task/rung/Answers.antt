@@ -11,11 +11,6 @@ use Rattle.standing.proofs.Rungs.{lag_ahead, lag_punctual, lag_behind, rung_tneg
 use Rattle.standing.proofs.Task.rung.Goals.{Else-next-self}
 use Rattle.standing.proofs.Task.rung.Goals as goal
 
-pub lag-next-requires : goal.lag-next-requires
-lag-next-requires c =
-    let small = c.args.self.now.small in
-    rw add-one (record { t_bound = next_due_fits small; k_bound = done_fits small })
-
 pub returns-then-next-le0 : goal.returns-then-next-le0
 returns-then-next-le0 c =
     let x = c.args.self.now in
@@ -31,14 +26,6 @@ returns-then-next-self c =
     sym
     (rung_urgent x.e x.p x.k x.t small c.requires (rw next at c.if-next-le0.false)
     (rw (period_is x.p small.limit, next) at c.if-next-self.true))
-
-pub lag-lag-requires : goal.lag-lag-requires
-lag-lag-requires c =
-    let small = c.args.self.now.small in
-    record {
-      t_bound = due_fits small;
-      k_bound = done_fits small;
-    }
 
 -- Past the tests of the next lag the rung is that of the standing.
 contends : (c : Else-next-self) → let x = c.args.self.now in rung x.t (counted x.e x.p x.k) ≡ between (standing x.t (counted x.e x.p x.k))
