@@ -1,7 +1,7 @@
 // Admission of a task set: refusals 1 to 6 in their order, and for a set that passes M, L and the spare.
 #![tactic(auto)]
 
-ghost use Rattle.std.specs.Prelude.{[], ◌∷◌, ◌≡◌, ◌*◌, ◌<◌, ◌≤◌, length};
+ghost use Rattle.std.specs.Prelude.{[], ◌∷◌, ◌≡◌, ◌*◌, ◌<◌, ◌≤◌};
 ghost use Rattle.rule.specs.Limits.{units_most, multiple_most};
 ghost use Rattle.rule.specs.Sets.{multiple as multiple_of, load as load_of};
 ghost use Rattle.rule.specs.Refusals.{first, multiples, loads};

@@ -263,6 +263,7 @@ impl fmt::Display for Marks<'_> {
     }
 }
 
+// A listing's byte stays a number: document 01 gives the bytes, and `listing::list` writes them.
 #[derive(Clone, Copy)]
 struct Mark(u8);
 

@@ -24,7 +24,8 @@ fn is_digit(c: u8) -> bool
     matches!(c, b'0'..=b'9' | b'A'..=b'F')
 }
 
-// The byte at place i that a line's digits stand for; 0 past the last. Of other characters it is some number, of no use.
+// The byte at place i that a line's digits stand for; 0 past the last, as a list is read (`at`), and no Option. Of other characters it is
+// some number, of no use.
 pub fn byte_at(line: &[u8], i: usize) -> u32
     ensures value { result ≡ at (bytes_of line.now) i }
     ensures small { result ≤ 3400 }
@@ -60,7 +61,7 @@ pub fn pair_at(line: &[u8], i: usize) -> u32
     byte_at(line, i) * 256 + byte_at(line, i + 1)
 }
 
-// Writes a byte's two digits where there is room.
+// Writes a byte's two digits where there is room. Who has a buffer and a place together is `writing::Writer`, which calls this.
 pub fn put_byte(out: &mut [u8], at: usize, byte: u8)
     ensures { out.new ≡ sets out.old at (digits_of (byte ∷ [])) }
 {
@@ -76,7 +77,7 @@ pub fn put_byte(out: &mut [u8], at: usize, byte: u8)
     out[at + 1] = digit_of(byte % 16);
 }
 
-// The digit that counts v.
+// The digit that counts v: the library's `from_digit` gives small letters.
 fn digit_of(v: u8) -> u8
     requires { v < 16 }
     ensures { result ≡ digit_of v }

@@ -13,7 +13,7 @@ ghost use Rattle.doors.specs.Codes.{amount, code_of, outcome_code, ran_code, ord
 use records::Task;
 use rule::{Accepted, Order, Ran, Refusal, Weight};
 
-// What a refusal carries, 0 for nothing.
+// What a refusal carries, 0 for nothing. No `From`: the number and the place are both numbers of a refusal.
 fn amount_of(refusal: Refusal) -> u32
     ensures { result ≡ amount (carried_by refusal) }
 {
@@ -48,7 +48,7 @@ fn ran_code(ran: Ran) -> u64
     u64::from(ran.done) * 0x10000000000 + outcome_code(ran.end)
 }
 
-// Which of two goes first, as a number below every refusal's code.
+// Which of two goes first, as a number below every refusal's code. A `match`: the C interface's numbers are said here.
 fn order_code(order: Order) -> u64
     ensures { result ≡ order_code order }
 {
@@ -82,7 +82,7 @@ fn put_accepted(accepted: Accepted, answer: &mut [u32])
     answer[..room].copy_from_slice(&numbers[..room]);
 }
 
-// What either door answers to an admission: a refusal leaves the list as it was.
+// What either door answers to an admission: a refusal leaves the list as it was. A `match`, since what is stored is said beside the number.
 fn put_admission(admission: Result<Accepted, Refusal>, answer: &mut [u32]) -> u64
     ensures code { result ≡ admission_code admission }
     ensures answer { answer.new ≡ answer_after admission answer.old }
@@ -119,7 +119,7 @@ pub extern "C" fn door_compare(e: u32, p: u32, e2: u32, p2: u32, t: u32) -> u64
     order::compare(Weight { e, p }, Weight { e: e2, p: p2 }, t).map_or_else(code_of, order_code)
 }
 
-// One slot of a set lent as three lists, with a byte for each task.
+// One slot of a set lent as three lists, with a byte for each task. It has one shape with `door_list`: C needs a name for each.
 #[unsafe(no_mangle)]
 pub extern "C" fn door_slot(
     requirements: &[u32],

@@ -7,6 +7,7 @@ ghost use Rattle.field.specs.LayOut.{filled_with, lay_out, requirements_in, peri
 use rule::Weight;
 
 // The requirements and the periods of the tasks, the spare's after the last, and how many places that makes.
+// Two arrays, since there is no heap, and the slots take the two lists of document 01.
 #[derive(Drop)]
 pub struct Laid {
     requirements: [u32; 65],

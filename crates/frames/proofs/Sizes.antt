@@ -17,12 +17,11 @@ use Rattle.writing.specs.AnswerLines.{slot_lines, end_line}
 use Rattle.writing.proofs.Sizes.{length_line, length_refusal, length_malformed, length_accepted, take_few, slots_small, end_small}
 use Rattle.reading.specs.Kinds.{Frame, admit, run, list, malformed, read}
 use Rattle.frames.specs.declared.InForce.{InForce}
-use Rattle.frames.specs.declared.Kept.{Kept}
 use Rattle.frames.specs.Session.{Session, no_set, in_force}
 use Rattle.frames.specs.Replies.{admit_reply, run_reply, list_text, reply}
 use Rattle.frames.specs.Transcript.{answer_to}
 use Rattle.std.specs.Prelude.{Option, Some, None}
-use Rattle.frames.specs.Keeping.{session_with, session_of, tasks_of, answer_most}
+use Rattle.frames.specs.Keeping.{session_with, tasks_of, answer_most}
 
 -- How many tasks the set in force has.
 abbrev all_tasks : Session → ℕ
@@ -62,12 +61,9 @@ reply_small no_set list few = let h = length_malformed in omega arith
 reply_small (in_force m es ps ks t) list few =
     list_small (first (listing_checks es ps ks (each (length es) (λ i. 0)) m t)) es ps ks (each (length es) (λ i. 0)) t few
 
-pub answer_small : (k : Kept) (line : List ℕ) → tasks_of k.set ≤ 64 → length (answer_to (session_of k) line).text ≤ answer_most
+pub answer_small : (set : Option InForce) (es ps ks line : List ℕ) → tasks_of set ≤ 64 → length (answer_to (session_with set es ps ks) line).text ≤ answer_most
 unfolding answer_to
-answer_small k line few = go k.set few
-  where
-    go : (set : Option InForce) → tasks_of set ≤ 64 → length (reply (session_with set k.requirements.now k.periods.now k.counts.now) (read line)).text ≤ answer_most
-    go None few = reply_small no_set (read line) (omega arith)
-    go (Some s) few =
-        let h = take_few s.n k.requirements.now in
-        reply_small (session_with (Some s) k.requirements.now k.periods.now k.counts.now) (read line) (omega arith)
+answer_small None es ps ks line few = reply_small no_set (read line) (omega arith)
+answer_small (Some s) es ps ks line few =
+    let h = take_few s.n es in
+    reply_small (session_with (Some s) es ps ks) (read line) (omega arith)

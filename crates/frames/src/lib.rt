@@ -22,7 +22,7 @@ pub struct InForce {
 }
 
 // What is kept between frames: the set in force, if there is one, with its lists and its counts at the front of three lent lists. The
-// log is only worked in.
+// log is only worked in. It has no invariant: `answer` takes lists of any length, and says that they stay those that were lent (`SameLists`).
 #[derive(Drop)]
 pub struct Kept<'a> {
     pub set: Option<InForce>,
@@ -37,8 +37,10 @@ const LOG_MOST: usize = 65536;
 
 impl Kept<'_> {
     // Is there room for 64 tasks in each list, and for the longest log?
+    #[tactic(auto, unfolding(crate::specs::Keeping::has_room))]
     pub fn has_room(&self) -> bool
-        ensures { IsTrue result ↔ HasRoom self.now }
+        ensures value { result ≡ has_room self.now }
+        ensures facts { IsTrue result ↔ HasRoom self.now }
     {
         self.set.map_or(0, |set| set.n) <= rule::TASKS_MOST
             && self.requirements.len() >= rule::TASKS_MOST

@@ -14,7 +14,8 @@ const PUNCTUAL: u8 = 0x50;
 
 const BEHIND: u8 = 0x4C;
 
-// The mark of a task on a rung: who is tnegru is ahead, and who is urgent is behind.
+// The mark of a task on a rung: who is tnegru is ahead, and who is urgent is behind. A `match`: document 01's bytes are said here, and
+// `From<Rung> for u8` would not say which byte.
 fn mark_of(rung: Rung) -> u8
     ensures { result ≡ mark_by rung }
 {
@@ -35,7 +36,8 @@ fn write_marks(rungs: &[Rung], bytes: &mut [u8])
     }
 }
 
-// The listing of a set on m units at time t: refusals 1 to 8, or a byte for each task that says how it stands.
+// The listing of a set on m units at time t: refusals 1 to 8, or a byte for each task that says how it stands. `slot::slot` begins alike, and
+// one function for both would take the rest as a closure: no plainer.
 pub fn list(
     requirements: &[u32],
     periods: &[u32],

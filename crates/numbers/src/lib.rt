@@ -13,7 +13,7 @@ pub struct Fraction {
     pub below: u32,
 }
 
-// The greatest common divisor; of 0 and 0 it is 0.
+// The greatest common divisor; of 0 and 0 it is 0. By recursion, as document 01 names it.
 pub fn gcd(a: u32, b: u32) -> u32
     ensures value { result ≡ gcd_of a b }
     ensures which { IsGcd a b result }

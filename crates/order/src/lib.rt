@@ -10,7 +10,7 @@ ghost use Rattle.order.specs.Engine.{Bounds, engine};
 use rule::{Order, Refusal, Symbol, Weight};
 use std::cmp::Ordering;
 
-// The sign of a signed difference, written -, 0 or +.
+// The sign of a signed difference, written -, 0 or +: a form that document 01 names. A `match` on `cmp(&0)` has the same three cases.
 pub fn sign_of(difference: i64) -> Symbol
     ensures { result ≡ sign difference }
 {
@@ -44,7 +44,7 @@ fn symbol_at(task: Weight, i: u32) -> Symbol
     sign_of(difference(e * next, p * floor, p))
 }
 
-// The task with the higher symbol goes first; of one symbol neither does.
+// The task with the higher symbol goes first; of one symbol neither does. No `From<Ordering>`: it is asked here alone.
 fn higher(first: Symbol, second: Symbol) -> Order
     ensures { result ≡ higher first second }
 {
@@ -55,7 +55,8 @@ fn higher(first: Symbol, second: Symbol) -> Order
     }
 }
 
-// Follows both strings from t + 1 on, up to the first place where the two symbols differ or both are 0.
+// Follows both strings from t + 1 on, up to the first place where the two symbols differ or both are 0: a loop with `break`, as document 01
+// names it.
 fn follow(first: Weight, second: Weight, t: u32) -> Order
     requires first_bounds { Bounds multiple_most first.e first.p }
     requires second_bounds { Bounds multiple_most second.e second.p }
@@ -73,7 +74,8 @@ fn follow(first: Weight, second: Weight, t: u32) -> Order
     }
 }
 
-// The plain engine. It takes a spare too, whose period may be L, and answers a tie for what it does not take.
+// The plain engine. It takes a spare too, whose period may be L. What it does not take it answers by a tie, as `engine` says, and no Option:
+// it could not fail and does not.
 pub fn plain(first: Weight, second: Weight, t: u32) -> Order
     ensures { result ≡ engine first.e first.p second.e second.p t }
 {

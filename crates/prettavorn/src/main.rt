@@ -2,8 +2,8 @@
 #![tactic(auto)]
 
 ghost use Rattle.std.specs.Prelude.{true, ◌≡◌, ◌<◌, ◌≤◌, length, IfOk};
-ghost use Rattle.frames.specs.Keeping.{log_most, answer_most};
-ghost use Rattle.stream.specs.Pieces.{line_most, is_roomy};
+ghost use Rattle.frames.specs.Keeping.{answer_most};
+ghost use Rattle.stream.specs.Pieces.{is_roomy};
 
 use frames::Kept;
 use std::io;

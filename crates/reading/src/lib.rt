@@ -67,6 +67,7 @@ pub fn what_is_asked(line: &[u8]) -> Option<Asked>
 }
 
 // The requirements of a set to admit stand from byte 3 on, its periods from byte 5 on, each four bytes after the one before.
+// There is no heap: they fill the front of 64 places, and how many are asked is in `Asked::Admit`.
 pub fn column(line: &[u8], from: u8) -> [u32; 64]
     ensures { result ≡ column_of line.now from }
 {

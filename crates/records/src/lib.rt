@@ -18,7 +18,8 @@ pub struct Task {
     pub k: u32,
 }
 
-// No more than 64 records as the three lists of the first door. Past the last record nobody reads them.
+// No more than 64 records as the three lists of the first door. Past the last record nobody reads them. Arrays, since there is no
+// heap, and three of them, since the first door takes three lists.
 #[derive(Drop)]
 struct Lists {
     requirements: [u32; 64],

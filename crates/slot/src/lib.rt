@@ -52,14 +52,14 @@ fn goes_first(first: Weight, second: Weight, t: u32, lower: bool) -> bool
     }
 }
 
-// The rung of an urgent task.
+// Is it the rung of an urgent task?
 fn is_urgent(rung: Rung) -> bool
     ensures { result ≡ is_urgent rung }
 {
     matches!(rung, Rung::Urgent)
 }
 
-// The rungs of a contender.
+// Is it a contender's rung?
 fn contends(rung: Rung) -> bool
     ensures { result ≡ contends rung }
 {
@@ -232,7 +232,8 @@ pub fn deal(
     field.deal(units as usize, counts, bytes)
 }
 
-// One slot of a set on m units at time t: refusals 1 to 9, or the choice in the counts and in a byte for each task.
+// One slot of a set on m units at time t: refusals 1 to 9, or the choice in the counts and in a byte for each task. The lists are lent one by
+// one: document 01 names that form.
 pub fn slot(
     requirements: &[u32],
     periods: &[u32],

@@ -2,9 +2,9 @@
 // field is refused before that, by the numbers 1 to 4.
 #![tactic(auto)]
 
-ghost use Rattle.std.specs.Prelude.{true, not, position, zip, cond, map, ◌≡◌, ℕ, suc, ◌*◌, ◌<◌, ◌≤◌, ◌^◌, ltb, length};
+ghost use Rattle.std.specs.Prelude.{true, not, cond, map, ◌≡◌, ℕ, suc, ◌*◌, ◌<◌, ◌≤◌, ◌^◌, ltb, length};
 ghost use Rattle.std.specs.List.{range_with_len};
-ghost use Rattle.rule.specs.Limits.{bounded_by, multiple_most, tasks_most, units_most};
+ghost use Rattle.rule.specs.Limits.{tasks_most, units_most};
 ghost use Rattle.rule.specs.Places.{at, sum, lowest, found};
 ghost use Rattle.rule.specs.Sets.{task_at};
 ghost use Rattle.rule.specs.Task.{lag as lag_of, fair};
@@ -51,7 +51,8 @@ struct Task {
     ghost small: { Small e p k t },
 }
 
-// The rung of every place of a field at t, M in use, or the first refusal that holds.
+// The rung of every place of a field at t, M in use, or the first refusal that holds. There is no heap: it is 65 rungs whatever the field, and
+// past its places they are `Tnegru`.
 pub fn judge(
     units: u32,
     requirements: &[u32],

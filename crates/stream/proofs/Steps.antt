@@ -30,7 +30,7 @@ answered_roomy b was line q = rw q
 pub answer_fits : (k : Kept) (line : List ℕ) → HasRoom k → (size : ℕ) → size ≡ length (answered (has_room k) (session_of k) line).text → size ≤ answer_most
 answer_fits k line room size is =
     let said = ap (λ r. length r.text) (answered_roomy (has_room k) (session_of k) line (is_roomy k room)) in
-    let small = answer_small k line room.0 in
+    let small = answer_small k.set k.requirements.now k.periods.now k.counts.now line room.0 in
     omega arith
 
 module _ (k : Kept) (line bs : List ℕ) where

@@ -7,7 +7,7 @@ ghost use Rattle.writing.specs.AnswerLines.{line_feed};
 ghost use Rattle.frames.specs.Stream.{feed as feed_of};
 ghost use Rattle.frames.specs.Keeping.{answer_most};
 ghost use Rattle.stream.specs.Taking.{hold, scan, step};
-ghost use Rattle.stream.specs.Pieces.{line_most, session_at, line_at, is_roomy, HasLine, IsRoomy, SameReader, taken, ended_by};
+ghost use Rattle.stream.specs.Pieces.{session_at, line_at, is_roomy, HasLine, IsRoomy, SameReader, taken, ended_by};
 
 use frames::Kept;
 

@@ -42,7 +42,7 @@ impl Slots<'_> {
 }
 
 // Where an answer is written: the lent buffer, and the place after what is written so far. Its methods bound the place only so that no sum
-// of places is too large for a usize.
+// of places is too large for a usize; no invariant does, since each call moves the place on and each layer of calls has a bound of its own.
 #[derive(Drop)]
 struct Writer<'a> {
     out: &'a mut [u8],
@@ -204,7 +204,7 @@ impl<'a> Writer<'a> {
     }
 }
 
-// The place that a refusal's line names. An excess is no place.
+// The place that a refusal's line names. An excess is no place. No `From`: a refusal has a number too.
 fn place_of(refusal: Refusal) -> u32
     ensures { result ≡ place_byte (carried_by refusal) }
 {
