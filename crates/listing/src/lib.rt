@@ -31,6 +31,7 @@ fn write_marks(rungs: &[Rung], bytes: &mut [u8])
     requires { length bytes.old ≤ length rungs.now }
     ensures bytes { bytes.new ≡ marks_by (length bytes.old) rungs.now }
 {
+    // By index, since of a slice that a `zip` of `iter_mut` wrote to a proof knows the length alone.
     for (i, byte) in bytes.iter_mut().enumerate() {
         *byte = mark_of(rungs[i]);
     }

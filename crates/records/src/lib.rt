@@ -52,6 +52,7 @@ fn put_back(tasks: &mut [Task], counts: &[u32])
     requires { length counts.now ≡ length tasks.old }
     ensures { tasks.new ≡ with_counts tasks.old counts.now }
 {
+    // By index, since of a slice that a `zip` of `iter_mut` wrote to a proof knows the length alone.
     for (i, task) in tasks.iter_mut().enumerate() {
         task.k = counts[i];
     }

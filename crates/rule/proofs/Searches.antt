@@ -6,14 +6,13 @@ use Rattle.std.proofs.lemmas.Option.{same_Some}
 use Rattle.std.proofs.lemmas.Slice.Zip.{length-zip}
 use mathlib.Core.Bool.{Bool, true, false, cond, not}
 use mathlib.Core.List.{List, [], ◌∷◌}
-use mathlib.Core.Path.{◌≡◌, refl, sym}
+use mathlib.Core.Path.{◌≡◌, refl}
 use native.Mathlib.Decide.{dec_lt}
 use Prim.Native.Nat.{ℕ, suc, ◌+◌, ◌≤◌, ◌<◌}
 use native.Mathlib.Omega.{arith}
 use lib.ListN.{length}
 use borrow.Author.Tests.{lt-ltb, le-ltb}
 use Rattle.rule.specs.Places.{at, lowest, found}
-use Rattle.rule.proofs.Places.{lowest_found, lowest_none}
 
 pub found_some : (n place i : ℕ) → Some i ≡ found n place → (place < n) × (i ≡ place)
 unfolding found
@@ -38,13 +37,6 @@ found_here n place i e l = rw (lt-ltb place n l, e)
 pub found_never : (n place : ℕ) → n ≤ place → None ≡ found n place
 unfolding found
 found_never n place l = rw (le-ltb place n l)
-
-module _ (n : ℕ) (test : ℕ → Bool) where
-  pub found_first : (i : ℕ) → i < n → ((j : ℕ) → j < i → test j ≡ false) → test i ≡ true → Some i ≡ found n (lowest n test)
-  found_first i l before here = let e = lowest_found n i test l before here in found_here n (lowest n test) i (sym e) (omega arith)
-
-  pub found_nowhere : ((j : ℕ) → j < n → test j ≡ false) → None ≡ found n (lowest n test)
-  found_nowhere h = let e = lowest_none n test h in found_never n (lowest n test) (omega arith)
 
 length_zip : (es ps : List ℕ) → length ps ≡ length es → length (zip es ps) ≡ length es
 length_zip es ps same = rw (length-zip, same) (omega arith)
