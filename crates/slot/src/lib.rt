@@ -103,8 +103,16 @@ impl Field<'_> {
         requires in_bounds { i < length self.now.requirements.now }
         ensures { let f = self.now in result ≡ ltb (rank_to (length f.requirements.now) f.requirements.now f.periods.now f.rungs.now f.t i) room }
     {
-        let before = (0..self.requirements.len()).filter(|&j| self.before(j, i));
-        before.take(room).count() < room
+        let mut found: usize = 0;
+        for j in 0..self.requirements.len() {
+            if room <= found {
+                return false;
+            }
+            if self.before(j, i) {
+                found += 1;
+            }
+        }
+        found < room
     }
 
     // Does a contender run? Who goes before one that has room has room too, and who goes after one that has none has none, so that the

@@ -4,7 +4,7 @@ use native.Mathlib.Omega.{arith}
 use lib.ListN.{length, set}
 use Rattle.rule.specs.Task.{fair}
 use Rattle.standing.specs.Judged.{rung}
-use Rattle.standing.proofs.Entries.{given_narrow, laid_task, laid_spare, spare_within, rungs_of_tasks, rungs_with_spare}
+use Rattle.standing.proofs.Entries.{laid_task, laid_spare, spare_within, rungs_of_tasks, rungs_with_spare}
 use Rattle.standing.proofs.Field.rungs.Goals as goal
 
 pub task_rungs-rungs-requires : goal.task_rungs-rungs-requires

@@ -1,6 +1,6 @@
 -- The two tests are those of the definition, on words that are the integers they stand for, since all of them fit.
 use Rattle.rule.specs.Task.{fair}
-use Rattle.standing.proofs.Integers.{lag_fits, due_fits, done_fits, word_is, period_is, minus_fits, minus_period_is}
+use Rattle.standing.proofs.Integers.{lag_fits, due_fits, done_fits, word_is, period_is, minus_period_is}
 use Rattle.standing.proofs.Task.is_fair.Goals as goal
 
 pub returns-then-period-lag : goal.returns-then-period-lag
