@@ -1,21 +1,16 @@
 -- Who has room for a contender: the first places may say that it is taken, and one contender may say it of another. Assumes nothing.
-use mathlib.Core.Path.{◌≡◌, refl, sym, ap, ◌∙◌}
-use mathlib.Core.Bool.{Bool, true, false, cond, ◌&&◌}
-use mathlib.Core.List.{List, ◌∷◌}
-use Prim.Native.Nat.{ℕ, zero, suc, ◌+◌, ◌-◌, ◌≤◌}
-use native.Mathlib.Nat.{add-zero}
+use mathlib.Core.Path.{◌≡◌}
+use mathlib.Core.Bool.{Bool, true, ◌&&◌}
+use mathlib.Core.List.{List}
+use Prim.Native.Nat.{ℕ, ◌+◌, ◌-◌, ◌≤◌}
 use native.Mathlib.Numerals.{add-one}
 use native.Mathlib.Omega.{arith}
 use lib.IntN.{pos}
-use lib.Dec.{ltb}
-use lib.ListN.{length, take}
-use Rattle.std.proofs.lemmas.List.{length-take}
-use Rattle.std.specs.List.{filter, range_with_len}
-use Rattle.rule.specs.Places.{at, bit, sum, count}
+use lib.ListN.{length}
+use Rattle.rule.specs.Places.{at, bit, sum}
 use Rattle.rule.specs.Sets.{Field}
 use Rattle.rule.specs.Slot.{precedes}
-use Rattle.rule.proofs.Tests.{both_true, ltb_ext}
-use Rattle.standing.proofs.Lists.{sum_first}
+use Rattle.rule.proofs.Tests.{both_true}
 use Rattle.rule.proofs.Places.{sum_append}
 use Rattle.rule.proofs.Ordering.{precedes_irreflexive, precedes_transitive, precedes_total}
 use Rattle.rule.proofs.Choice.{rank_le}
@@ -34,25 +29,6 @@ pub rank_more : (j t i : ℕ) (es ps : List ℕ) (rungs : List Rung) (b : Bool) 
     → rank_to (j + 1) es ps rungs t i ≡ rank_to j es ps rungs t i + bit b
 unfolding sum
 rank_more j t i es ps rungs b q = rw (add-one, q)
-
-go_before : (a n : ℕ) (test g : ℕ → Bool) → ((i : ℕ) → test (a + i) ≡ g i) → length (filter test (range_with_len a n)) ≡ count n g
-unfolding sum
-go_before a zero test g h = refl
-go_before a (suc n) test g h =
-    let here : test a ≡ g 0 = rw add-zero at (h 0) in
-    let one : (i : ℕ) → a + 1 + i ≡ a + suc i = λ i. omega arith in
-    let rest = go_before (a + 1) n test (λ i. g (suc i)) (λ i. rw (one i) (h (suc i))) in
-    rw here (go _ (g 0) rest) ∙ sym (sum_first n (λ i. bit (g i)))
-  where
-    go : (xs : List ℕ) {m : ℕ} (b : Bool) → length xs ≡ m → length (cond b (a ∷ xs) xs) ≡ bit b + m
-    go xs true q = omega (arith, q)
-    go xs false q = omega (arith, q)
-
--- Of the places that pass, as many as there is room for are counted, which tells whether there is room for one more.
-pub room_left : (n room : ℕ) (test : ℕ → Bool) → ltb (length (take room (filter test (range_with_len 0 n)))) room ≡ ltb (count n test) room
-room_left n room test =
-    let all = go_before 0 n test test (λ i. ap test (omega arith)) in
-    rw (length-take, all) (ltb_ext _ room (count n test) room (λ l. omega arith) (λ l. omega arith))
 
 -- The lists as a field, whose order is the rule's. The order asks no count.
 abbrev listed : List ℕ → List ℕ → Field
