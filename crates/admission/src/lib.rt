@@ -12,7 +12,8 @@ ghost use Rattle.admission.specs.Parts.{acceptance_of, spare_of};
 use numbers::Fraction;
 use rule::{Accepted, Refusal, Weight};
 
-// M, L and the spare of a set on m units, or the first refusal of 1 to 6 that holds.
+// M, L and the spare of a set on m units, or the first refusal of 1 to 6 that holds. The lists are lent one by one: document 01 names that
+// form.
 pub fn admit(requirements: &[u32], periods: &[u32], m: u32) -> Result<Accepted, Refusal>
     ensures { result ≡ admission requirements.now periods.now m }
 {
@@ -82,7 +83,8 @@ fn accept(load: u32, multiple: u32) -> Accepted
     }
 }
 
-// The spare that takes this room of L, in lowest terms; nobody where there is no room.
+// The spare that takes this room of L, in lowest terms; nobody where there is no room. No `From<Fraction>`: it is asked here alone, and
+// `numbers` knows no tasks.
 #[tactic(auto, unfolding(crate::specs::Parts::spare_of, numbers::specs::Divide::lowest_terms))]
 fn spare_of(room: u32, multiple: u32) -> Option<Weight>
     ensures { result ≡ spare_of room multiple }

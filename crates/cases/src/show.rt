@@ -227,7 +227,7 @@ impl fmt::Display for Choice<'_> {
     }
 }
 
-// How many tasks are chosen.
+// How many tasks are chosen. `writing` has this filter too, in a private function whose clause speaks of a line: to share it would be no plainer.
 fn chosen_in(bytes: &[u8]) -> usize
     ensures { result ≡ count_by (λ byte. eqb byte 1) bytes.now }
 {

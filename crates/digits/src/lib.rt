@@ -50,7 +50,7 @@ fn digit_value(c: u8) -> u32
     u32::from(counts)
 }
 
-// The number in two bytes from place i on.
+// The number in two bytes from place i on; 0 past the last, as `byte_at`.
 pub fn pair_at(line: &[u8], i: usize) -> u32
     ensures { result ≡ field_at 2 (bytes_of line.now) i }
 {
@@ -85,7 +85,7 @@ fn digit_of(v: u8) -> u8
     if v < 10 { v + b'0' } else { v + TEN_BELOW_A }
 }
 
-// Writes a value in `width` bytes, where there is room.
+// Writes a value in `width` bytes, where there is room. As `put_byte`: `writing::Writer` has the buffer and the place together.
 pub fn put_field(out: &mut [u8], at: usize, width: u8, value: u32)
     ensures { out.new ≡ sets out.old at (digits_of (field width value)) }
 {

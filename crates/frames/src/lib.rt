@@ -23,6 +23,7 @@ pub struct InForce {
 
 // What is kept between frames: the set in force, if there is one, with its lists and its counts at the front of three lent lists. The
 // log is only worked in. It has no invariant: `answer` takes lists of any length, and says that they stay those that were lent (`SameLists`).
+// There is no heap: how much of the lists is in use stands beside them.
 #[derive(Drop)]
 pub struct Kept<'a> {
     pub set: Option<InForce>,

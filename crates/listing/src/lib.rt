@@ -38,7 +38,7 @@ fn write_marks(rungs: &[Rung], bytes: &mut [u8])
 }
 
 // The listing of a set on m units at time t: refusals 1 to 8, or a byte for each task that says how it stands. `slot::slot` begins alike, and
-// one function for both would take the rest as a closure: no plainer.
+// one function for both would take the rest as a closure: no plainer. The lists are lent one by one: document 01 names that form.
 pub fn list(
     requirements: &[u32],
     periods: &[u32],

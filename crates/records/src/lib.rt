@@ -27,7 +27,8 @@ struct Lists {
     counts: [u32; 64],
 }
 
-// The records taken apart. More than 64 are refused, whatever they are.
+// The records taken apart. More than 64 are refused, whatever they are. By index: of a list that a zip of `iter_mut` wrote to a proof knows the
+// length alone.
 fn take_apart(tasks: &[Task]) -> Result<Lists, Refusal>
     ensures { MatchResult result (Apart (length tasks.now) tasks.now) (λ refusal. (refusal ≡ Refusal.Tasks) × (64 < length tasks.now)) }
 {

@@ -63,7 +63,8 @@ fn stopped(refusal: Refusal) -> Ran
     }
 }
 
-// So many slots of a set on m units from time t on: refusal 10, then 1, then slot by slot up to the first refusal.
+// So many slots of a set on m units from time t on: refusal 10, then 1, then slot by slot up to the first refusal. The lists are lent one by
+// one: document 01 names that form.
 pub fn run(
     slots: u32,
     requirements: &[u32],

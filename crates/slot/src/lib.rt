@@ -76,7 +76,7 @@ impl Field<'_> {
         places.iter().filter(|rung| test(**rung)).count()
     }
 
-    // The task, or the spare, at a place.
+    // The task, or the spare, at a place. Each method here bounds its own place: a type for a place would be of one field alone.
     fn task(&self, place: usize) -> Weight
         requires in_bounds { place < length self.now.requirements.now }
         ensures { result ≡ weight (at self.now.requirements.now place) (at self.now.periods.now place) }
@@ -166,6 +166,7 @@ impl Field<'_> {
     }
 
     // Runs the tasks that the slot chooses: a byte for each, and 1 more in the count of each chosen one. The other counts are not stored.
+    // By index: of a list that a zip of `iter_mut` wrote to a proof knows the length alone.
     fn choose(&self, room: usize, contending: usize, counts: &mut [u32], bytes: &mut [u8])
         requires contenders { contending ≡ contending_to (length self.now.requirements.now) self.now.rungs.now }
         requires lengths { (length counts.old ≤ length self.now.requirements.now) × (length bytes.old ≡ length counts.old) }
@@ -207,7 +208,8 @@ impl Field<'_> {
     }
 }
 
-// One slot of a field that is laid out, M given: the requirements and the periods have the spare's last, if there is one.
+// One slot of a field that is laid out, M given: the requirements and the periods have the spare's last, if there is one. It
+// answers for lists of any length, so that it takes no `Laid`.
 pub fn deal(
     units: u32,
     requirements: &[u32],

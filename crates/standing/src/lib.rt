@@ -41,7 +41,7 @@ struct Field<'a> {
     ghost sound: { Sound requirements.now periods.now counts.now t },
 }
 
-// A task within its limits, with a count that is a u32, at a time of the calendar.
+// A task within its limits, with a count that is a u32, at a time of the calendar. e and p stand apart, as `Small` and `counted` take them.
 #[derive(Clone, Copy)]
 struct Task {
     e: u32,
@@ -52,7 +52,7 @@ struct Task {
 }
 
 // The rung of every place of a field at t, M in use, or the first refusal that holds. There is no heap: it is 65 rungs whatever the field, and
-// past its places they are `Tnegru`.
+// past its places they are `Tnegru`. It answers for lists of any length, so that it takes no `Laid`.
 pub fn judge(
     units: u32,
     requirements: &[u32],
@@ -178,7 +178,7 @@ impl Field<'_> {
         rungs
     }
 
-    // The rungs of the tasks, and Tnegru past them.
+    // The rungs of the tasks, and Tnegru past them. By index: of a list that a zip of `iter_mut` wrote to a proof knows the length alone.
     #[tactic(auto, using(crate::proofs::Lists::listed_more), unfolding(rule::specs::Sets::task_at))]
     fn task_rungs(&self) -> [Rung; 65]
         requires each_fair { let f = self.now in (i : ℕ) → i < length f.counts.now → fair f.t (task_at f.requirements.now f.periods.now f.counts.now i) ≡ true }
@@ -213,6 +213,7 @@ impl Task {
         if next >= self.p as i64 {
             return Rung::Urgent;
         }
+        // A `match` on `cmp(&0)` has the same three arms.
         let lag = self.lag(self.t);
         if lag < 0 {
             Rung::Ahead

@@ -19,7 +19,9 @@ const LINE_MOST: usize = 519;
 // No answer is longer: 1,024 lines that name 64 tasks each, and the line of a refusal.
 const ANSWER_MOST: usize = 144391;
 
-// What is kept while more input is waited for: the session, and the line at hand at the front of a lent list.
+// What is kept while more input is waited for: the session, and the line at hand at the front of a lent list. There is no heap, so that its
+// length stands beside it; and no invariant: `feed` and `finish` take lists of any length, and say that they stay those that were lent
+// (`SameReader`).
 #[derive(Drop)]
 pub struct Reader<'a> {
     pub kept: Kept<'a>,

@@ -15,10 +15,11 @@ use rule::{Accepted, Refusal, Weight};
 // What ends a line.
 const LINE_FEED: u8 = 0x0A;
 
-// Where a refusal names no place.
+// Where a refusal names no place: document 01's byte of the line (`place_byte`), so that `place_of` is no Option.
 const NO_PLACE: u32 = 0xFF;
 
-// The slots that a run did: how many, of how many tasks each, from which time on, and the bytes of all of them.
+// The slots that a run did: how many, of how many tasks each, from which time on, and the bytes of all of them. There is no
+// heap: the log is lent, and how much of it is meant stands beside it.
 #[derive(Clone, Copy)]
 pub struct Slots<'a> {
     pub done: u32,
@@ -41,8 +42,9 @@ impl Slots<'_> {
     }
 }
 
-// Where an answer is written: the lent buffer, and the place after what is written so far. Its methods bound the place only so that no sum
-// of places is too large for a usize; no invariant does, since each call moves the place on and each layer of calls has a bound of its own.
+// Where an answer is written: the lent buffer, and beside it the place after what is written so far, since there is no heap. Its methods
+// bound the place only so that no sum of places is too large for a usize; no invariant does, since each call moves the place on and each
+// layer of calls has a bound of its own.
 #[derive(Drop)]
 struct Writer<'a> {
     out: &'a mut [u8],
@@ -214,7 +216,8 @@ fn place_of(refusal: Refusal) -> u32
     }
 }
 
-// How many tasks ran in a slot, which its line names before their places.
+// How many tasks ran in a slot, which its line names before their places. `cases` has this filter too: to share it would be no plainer, since
+// the clause here speaks of a line's places.
 fn count_ran(bytes: &[u8]) -> u8
     requires { length bytes.now ≤ 64 }
     ensures { result ≡ length (places_from 0 bytes.now) }
