@@ -7,13 +7,13 @@ use rule::Weight;
 
 // Admission of a set.
 pub fn admission(rt: &impl Print, set: Set<'_>) {
-    show::line(rt, set);
+    show::text(rt, set);
     admitted(rt, set);
 }
 
 // Admission of a set whose tasks are all alike.
 pub fn alike(rt: &impl Print, set: Set<'_>) {
-    show::line(rt, Alike(set));
+    show::text(rt, Alike(set));
     admitted(rt, set);
 }
 
@@ -24,7 +24,7 @@ fn admitted(rt: &impl Print, set: Set<'_>) {
 
 // Comparison of two tasks at a time.
 pub fn comparison(rt: &impl Print, one: Weight, other: Weight, t: u32) {
-    show::line(
+    show::text(
         rt,
         format_args!("{} against {} at time {t}", Fraction(one), Fraction(other)),
     );
@@ -34,7 +34,7 @@ pub fn comparison(rt: &impl Print, one: Weight, other: Weight, t: u32) {
 
 // One slot.
 pub fn slot<const N: usize>(rt: &impl Print, set: Set<'_>, mut counts: [u32; N], t: u32) {
-    show::line(
+    show::text(
         rt,
         Standing {
             set,
@@ -58,7 +58,7 @@ pub fn slot<const N: usize>(rt: &impl Print, set: Set<'_>, mut counts: [u32; N],
 
 // A run from time t on.
 pub fn run(rt: &impl Print, slots: u32, set: Set<'_>, counts: &mut [u32], log: &mut [u8], t: u32) {
-    show::line(
+    show::text(
         rt,
         format_args!("{slots} slots of {}", Standing { set, t, counts }),
     );
@@ -67,14 +67,15 @@ pub fn run(rt: &impl Print, slots: u32, set: Set<'_>, counts: &mut [u32], log: &
         rt,
         format_args!("done: {} slots, counts now{}", ran.done, Numbers(counts)),
     );
-    if let Err(refusal) = ran.end {
-        show::reply(rt, Refused(refusal));
+    match ran.end {
+        Ok(()) => show::text(rt, "\n"),
+        Err(refusal) => show::reply(rt, Refused(refusal)),
     }
 }
 
 // A listing of standings.
 pub fn listing<const N: usize>(rt: &impl Print, set: Set<'_>, counts: &[u32; N], t: u32) {
-    show::line(rt, Standing { set, t, counts });
+    show::text(rt, Standing { set, t, counts });
     let mut bytes = [0; N];
     let listing = listing::list(set.requirements, set.periods, counts, &mut bytes, set.m, t);
     show::reply(rt, Answer(listing.map(|()| Marks(&bytes))));

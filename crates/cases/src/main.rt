@@ -34,7 +34,7 @@ fn main(rt: HostRuntime) {
 
 // L on both sides of its limit. The limit itself is no L, since a period is at most 65535.
 fn multiples(rt: &impl Print) {
-    show::line(rt, "The limit of L");
+    show::text(rt, "The limit of L\n");
     for periods in [[65535, 16], [65535, 32], [31775, 33], [17, 61681]] {
         ask::admission(
             rt,
@@ -49,7 +49,7 @@ fn multiples(rt: &impl Print) {
 
 // The most tasks and one more, the most units and one more.
 fn tasks_and_units(rt: &impl Print) {
-    show::line(rt, "\nThe limits of tasks and units");
+    show::text(rt, "\nThe limits of tasks and units\n");
     let halves = Set {
         requirements: &[1; 64],
         periods: &[2; 64],
@@ -77,14 +77,14 @@ fn tasks_and_units(rt: &impl Print) {
 
 // The paper's set, on enough units and on one too few.
 fn loads(rt: &impl Print) {
-    show::line(rt, "\nThe load");
+    show::text(rt, "\nThe load\n");
     ask::admission(rt, PAPER);
     ask::admission(rt, Set { m: 2, ..PAPER });
 }
 
 // Each of the three answers, then the last time and one later.
 fn comparisons(rt: &impl Print) {
-    show::line(rt, "\nThe order of two tasks");
+    show::text(rt, "\nThe order of two tasks\n");
     let half = Weight { e: 1, p: 2 };
     let third = Weight { e: 1, p: 3 };
     ask::comparison(rt, Weight { e: 2, p: 3 }, third, 0);
@@ -96,7 +96,7 @@ fn comparisons(rt: &impl Print) {
 
 // One slot at the last time and one later, and a run that comes past it.
 fn last_slots(rt: &impl Print) {
-    show::line(rt, "\nThe last time");
+    show::text(rt, "\nThe last time\n");
     ask::slot(rt, TURNS, [8388608, 8388607], 16777215);
     ask::slot(rt, TURNS, [8388608; 2], 16777216);
     ask::run(rt, 4, TURNS, &mut [8388607; 2], &mut [0; 8], 16777214);
@@ -104,27 +104,27 @@ fn last_slots(rt: &impl Print) {
 
 // A listing at the last time and one later.
 fn last_listings(rt: &impl Print) {
-    show::line(rt, "\nThe last listing");
+    show::text(rt, "\nThe last listing\n");
     ask::listing(rt, TURNS, &[8388608, 8388607], 16777215);
     ask::listing(rt, TURNS, &[8388608; 2], 16777216);
 }
 
 // The most slots of a run, and one more.
 fn longest_runs(rt: &impl Print) {
-    show::line(rt, "\nThe longest run");
+    show::text(rt, "\nThe longest run\n");
     ask::run(rt, 1024, PAPER, &mut [0; 4], &mut [0; 4096], 0);
     ask::run(rt, 1025, PAPER, &mut [0; 4], &mut [0; 4100], 0);
 }
 
 // The paper's set slot by slot, and how its tasks then stand.
 fn paper(rt: &impl Print) {
-    show::line(rt, "\nThe paper's set");
+    show::text(rt, "\nThe paper's set\n");
     let mut counts = [0; 4];
     let mut log = [0; 80];
     ask::run(rt, 20, PAPER, &mut counts, &mut log, 0);
     for (time, bytes) in log.chunks_exact(4).enumerate() {
         let choice = Choice { bytes, m: PAPER.m };
-        show::line(rt, format_args!("    slot {time}: {choice}"));
+        show::text(rt, format_args!("    slot {time}: {choice}\n"));
     }
     ask::listing(rt, PAPER, &counts, 20);
 }

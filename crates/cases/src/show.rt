@@ -1,17 +1,30 @@
-// Cases and answers in words, a line each on standard output.
-ghost use Rattle.std.specs.Prelude.{◌≡◌, eqb, count_by};
+// Cases and answers in words, written to standard output.
+ghost use Rattle.std.specs.Prelude.{◌≡◌, ◌-◌, eqb, count_by};
 
 use rule::{Accepted, Order, Refusal, Weight};
-use std::fmt;
+use std::fmt::{self, Write};
 
-// Writes a line. Where that fails, the next one is tried all the same.
-pub fn line<D: fmt::Display + Drop>(rt: &impl Print, words: D) {
-    let _ = rt.println(words);
+// Standard output, with a write of its own for each piece of a text: the words between two values, or a value. How a text is cut up below is
+// how it is written, so that where a write fails its piece alone is missing.
+#[derive(Drop)]
+struct Pieces<'a, P>(&'a P);
+
+impl<P: Print> Write for Pieces<'_, P> {
+    // Where a write fails, the next one is tried all the same.
+    fn write_str(&mut self, piece: &str) -> fmt::Result {
+        let _ = self.0.write_all(piece.as_bytes());
+        Ok(())
+    }
 }
 
-// Writes the line of an answer, after the line of what is asked.
+// Writes words, which say themselves where a line ends.
+pub fn text<D: fmt::Display + Drop>(rt: &impl Print, words: D) {
+    let _ = Pieces(rt).write(words);
+}
+
+// Starts the line of an answer, after the line of what is asked.
 pub fn reply<D: fmt::Display + Drop>(rt: &impl Print, words: D) {
-    line(rt, format_args!("    {words}"));
+    text(rt, format_args!("\n    {words}"));
 }
 
 // ---- what is asked
@@ -88,7 +101,8 @@ pub struct Units(pub u32);
 impl fmt::Display for Units {
     fn fmt<W: fmt::Write>(&self, f: &mut fmt::Formatter<W>) -> fmt::Result {
         match self.0 {
-            1 => write!(f, "1 unit"),
+            // the number is a piece of its own here too
+            m @ 1 => write!(f, "{m} unit"),
             m => write!(f, "{m} units"),
         }
     }
@@ -109,7 +123,7 @@ impl fmt::Display for Numbers<'_> {
 
 // ---- what is answered
 
-// What an entry answers, or why it refuses.
+// What an entry answers, or why it refuses. Each answer ends its line.
 #[derive(Drop)]
 pub struct Answer<T>(pub Result<T, Refusal>);
 
@@ -129,7 +143,7 @@ pub struct Refused(pub Refusal);
 impl fmt::Display for Refused {
     fn fmt<W: fmt::Write>(&self, f: &mut fmt::Formatter<W>) -> fmt::Result {
         let number = self.0.number();
-        write!(f, "refused: {number}, {}", Reason(self.0))
+        writeln!(f, "refused: {number}, {}", Reason(self.0))
     }
 }
 
@@ -172,10 +186,11 @@ impl fmt::Display for Admitted {
             multiple,
             spare,
         } = self.0;
-        write!(f, "accepted: M {units}, L {multiple}, ")?;
+        f.write_str("accepted: ")?;
+        write!(f, "M {units}, L {multiple}")?;
         match spare {
-            None => write!(f, "no spare"),
-            Some(weight) => write!(f, "spare {}", Fraction(weight)),
+            None => f.write_str(", no spare\n"),
+            Some(weight) => writeln!(f, ", spare {}", Fraction(weight)),
         }
     }
 }
@@ -187,9 +202,9 @@ pub struct Compared(pub Order);
 impl fmt::Display for Compared {
     fn fmt<W: fmt::Write>(&self, f: &mut fmt::Formatter<W>) -> fmt::Result {
         f.write_str(match self.0 {
-            Order::First => "the first goes first",
-            Order::Second => "the second goes first",
-            Order::Tie => "a tie",
+            Order::First => "the first goes first\n",
+            Order::Second => "the second goes first\n",
+            Order::Tie => "a tie\n",
         })
     }
 }
@@ -204,7 +219,7 @@ pub struct Dealt<'a> {
 impl fmt::Display for Dealt<'_> {
     fn fmt<W: fmt::Write>(&self, f: &mut fmt::Formatter<W>) -> fmt::Result {
         let Dealt { choice, counts } = *self;
-        write!(f, "done: {choice}, counts now{}", Numbers(counts))
+        writeln!(f, "done: {choice}, counts now{}", Numbers(counts))
     }
 }
 
@@ -223,7 +238,7 @@ impl fmt::Display for Choice<'_> {
         } else {
             write!(f, "places{}", Places(self.bytes))?;
         }
-        write!(f, ", {} idle", (self.m as usize).saturating_sub(chosen))
+        write!(f, ", {} idle", idle(self.m as usize, chosen))
     }
 }
 
@@ -232,6 +247,13 @@ fn chosen_in(bytes: &[u8]) -> usize
     ensures { result ≡ count_by (λ byte. eqb byte 1) bytes.now }
 {
     bytes.iter().filter(|&&byte| byte == 1).count()
+}
+
+// The units left where so many are taken.
+fn idle(m: usize, taken: usize) -> usize
+    ensures { result ≡ m - taken }
+{
+    m.saturating_sub(taken)
 }
 
 // The chosen places with a blank before each.
@@ -257,9 +279,9 @@ impl fmt::Display for Marks<'_> {
     fn fmt<W: fmt::Write>(&self, f: &mut fmt::Formatter<W>) -> fmt::Result {
         write!(f, "standings:")?;
         for &byte in self.0 {
-            write!(f, " {}", Mark(byte))?;
+            write!(f, "{}", Mark(byte))?;
         }
-        Ok(())
+        f.write_str("\n")
     }
 }
 
@@ -270,9 +292,9 @@ struct Mark(u8);
 impl fmt::Display for Mark {
     fn fmt<W: fmt::Write>(&self, f: &mut fmt::Formatter<W>) -> fmt::Result {
         f.write_str(match self.0 {
-            b'A' => "ahead",
-            b'P' => "punctual",
-            _ => "behind",
+            b'A' => " ahead",
+            b'P' => " punctual",
+            _ => " behind",
         })
     }
 }

@@ -20,6 +20,18 @@ length_bytes (h ∷ l ∷ cs) = let more = length_bytes cs in omega arith
 
 -- ---- the byte at a place
 
+-- Below half the length the byte has the two digits that stand side by side there.
+pub byte_here : (line : List ℕ) (i : ℕ) → i < length line / 2
+    → at (bytes_of line) i ≡ digit_value (at line (2 * i)) * 16 + digit_value (at line (2 * i + 1))
+unfolding bytes_of
+byte_here [] i h = absurd (omega arith)
+byte_here (x ∷ []) i h = absurd (omega arith)
+byte_here (x ∷ y ∷ cs) zero h = refl
+byte_here (x ∷ y ∷ cs) (suc i) h =
+    let first : 2 * suc i ≡ suc (suc (2 * i)) = omega arith in
+    let second : suc (suc (2 * i)) + 1 ≡ suc (suc (2 * i + 1)) = omega arith in
+    rw (first, second) (byte_here cs i (omega arith))
+
 -- Of the line cut into pairs, the pair at a place has the digits of the byte there.
 pub byte_of_pair : (line : List ℕ) (k i : ℕ) (pair : List ℕ) → 2 * k ≤ length line → i < k → pair ≡ get_or (first_chunks 2 k line) i pair
     → at (bytes_of line) i ≡ digit_value (at pair 0) * 16 + digit_value (at pair 1)

@@ -1,13 +1,19 @@
--- A list of so many places that takes the front of another list, as far as both reach, is that list filled up. Assumes nothing.
+-- A list of so many places that takes the front of another list, as far as both reach, is that list filled up; and the layout, by cases
+-- on the spare. Assumes nothing.
+use Rattle.std.specs.Prelude.{Option, Some, None}
 use mathlib.Core.Path.{◌≡◌, refl, ap}
 use mathlib.Core.List.{List, [], ◌∷◌, ◌++◌}
-use Prim.Native.Nat.{ℕ, zero, suc, ◌≤◌, ◌<◌}
+use Prim.Native.Nat.{ℕ, zero, suc, ◌+◌, ◌≤◌, ◌<◌}
+use native.Mathlib.Numerals.{add-one}
 use native.Mathlib.Omega.{arith}
 use Prim.Native.Nat.compare
 use borrow.Author.Tests.{lt-ltb, le-ltb}
 use lib.ListN.{length, take, drop, replicate}
-use Rattle.rule.specs.Layout.{placed}
+use Rattle.rule.specs.declared.Weight.{Weight}
+use Rattle.rule.specs.Layout.{placed, requirement_of, period_of, places_of}
 use Rattle.rule.specs.Places.{at, each}
+use Rattle.rule.specs.Sets.{weight}
+use Rattle.field.specs.LayOut.{filled_with, lay_out}
 
 -- A list of one number alone.
 each_same : (m rest : ℕ) (f : ℕ → ℕ) → ((j : ℕ) → rest ≡ f j) → replicate m rest ≡ each m f
@@ -26,3 +32,17 @@ all_filled (suc m) zero (x ∷ xs) rest h g past = absurd (omega (arith, past))
 all_filled (suc m) (suc k) [] rest h g past = absurd (omega arith)
 all_filled (suc m) (suc k) (x ∷ xs) rest h g past =
     simp (lt-ltb 0 (suc (length xs)) (omega arith), compare.suc-suc) (ap (λ ys. x ∷ ys) (all_filled m k xs rest (omega arith) (omega arith) (λ l. omega (arith, past))))
+
+-- ---- the layout, by cases on the spare
+
+module _ (es ps as' bs : List ℕ) (s : Option Weight) where
+  -- With nobody to spare both lists are filled up with 0.
+  pub laid_nobody : s ≡ None → as' ≡ filled_with es 0 → bs ≡ filled_with ps 0 → record { requirements = as'; periods = bs; size = length es } ≡ lay_out es ps s
+  unfolding lay_out requirement_of period_of places_of
+  laid_nobody q a b = rw (q, a, b)
+
+  -- A spare has a place of its own, and its numbers fill both lists.
+  pub laid_task : (e p : ℕ) → s ≡ Some (weight e p) → as' ≡ filled_with es e → bs ≡ filled_with ps p
+      → record { requirements = as'; periods = bs; size = length es + 1 } ≡ lay_out es ps s
+  unfolding lay_out requirement_of period_of places_of
+  laid_task e p q a b = rw (q, a, b, add-one)

@@ -1,6 +1,6 @@
 -- What `lay_out` lays out of a set, up to its size, are the requirements and the periods of the set's field. Assumes nothing.
 use Rattle.std.specs.Prelude.{None, Option, Some}
-use mathlib.Core.Path.{◌≡◌}
+use mathlib.Core.Path.{◌≡◌, refl}
 use mathlib.Core.List.{List}
 use Prim.Native.Nat.{ℕ, ◌≤◌}
 use native.Mathlib.Omega.{arith}
@@ -28,6 +28,11 @@ module _ (es ps : List ℕ) (same : length ps ≡ length es) (few : length es �
       go : (s : Option Weight) → places_of s (length es) ≤ 65
       go None = omega arith
       go (Some w) = omega arith
+
+  -- What is laid out of the set and its spare has the places of its field.
+  pub laid_size : (lay_out es ps (spare es ps)).size ≡ size es ps
+  unfolding lay_out size
+  laid_size = refl
 
   pub laid_requirements_lem : requirements_in (lay_out es ps (spare es ps)) ≡ laid_requirements es ps
   unfolding lay_out filled_with laid_requirements size requirement_at

@@ -10,12 +10,12 @@ use rule::Weight;
 // Two arrays, since there is no heap, and the slots take the two lists of document 01.
 #[derive(Drop)]
 pub struct Laid {
-    requirements: [u32; 65],
-    periods: [u32; 65],
-    size: usize,
+    pub requirements: [u32; 65],
+    pub periods: [u32; 65],
+    pub size: usize,
 }
 
-// The parts that are laid out. Of a set of more than 65 places, which no admission accepts, it is the first 65.
+// The parts that are laid out. Where `size` is more than 65, as of a set that no admission accepts, it is all 65.
 impl Laid {
     pub fn requirements(&self) -> &[u32]
         ensures { result.now ≡ requirements_in self.now }
@@ -35,21 +35,21 @@ pub fn lay_out(requirements: &[u32], periods: &[u32], spare: Option<Weight>) -> 
     ensures { result ≡ lay_out requirements.now periods.now spare }
 {
     let n = requirements.len();
-    match spare {
-        None => Laid {
-            requirements: filled(requirements, 0),
-            periods: filled(periods, 0),
-            size: n,
-        },
-        Some(Weight { e, p }) => Laid {
-            requirements: filled(requirements, e),
-            periods: filled(periods, p),
-            size: n + 1,
-        },
+    // One expression for both cases: of a `Laid` in each the two arrays were copied once more, on every slot and listing.
+    let (e, p, size) = match spare {
+        None => (0, 0, n),
+        Some(Weight { e, p }) => (e, p, n + 1),
+    };
+    Laid {
+        requirements: filled(requirements, e),
+        periods: filled(periods, p),
+        size,
     }
 }
 
-// The first 65 numbers of a list, and `rest` where it has ended.
+// The first 65 numbers of a list, and `rest` where it has ended. A call of its own, so that it stores where its caller wants the array: inline
+// it was cleared and copied as often again.
+#[inline(never)]
 fn filled(list: &[u32], rest: u32) -> [u32; 65]
     ensures { result ≡ filled_with list.now rest }
 {

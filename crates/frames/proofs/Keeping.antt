@@ -1,8 +1,10 @@
 -- What is kept, as a session, and the answers that leave it: a listing, refusal 11, and whatever is asked before any set. Assumes nothing.
-use mathlib.Core.List.{◌∷◌}
-use lib.ListN.{replicate}
+use mathlib.Core.List.{List, [], ◌∷◌}
+use lib.ListN.{replicate, length, take}
 use Rattle.rule.specs.Places.{each}
-use Prim.Native.Nat.{ℕ, zero, suc}
+use Rattle.rule.proofs.Written.{written}
+use Prim.Native.Nat.{ℕ, zero, suc, ◌≤◌}
+use native.Mathlib.Omega.{arith}
 use mathlib.Core.Path.{◌≡◌, refl, ap}
 use Rattle.writing.specs.AnswerLines.{malformed_line}
 use Rattle.reading.specs.Kinds.{run, list, malformed}
@@ -37,3 +39,10 @@ pub cleared : (n : ℕ) → replicate n 0 ≡ each n (λ i. 0)
 unfolding each
 cleared zero = refl
 cleared (suc n) = ap (λ xs. 0 ∷ xs) (cleared n)
+
+-- A list whose front was written place by place.
+pub take_written : (n : ℕ) (f : ℕ → ℕ) (xs : List ℕ) → n ≤ length xs → take n (written n f xs) ≡ each n f
+unfolding written each
+take_written zero f xs h = refl
+take_written (suc n) f [] h = absurd (omega arith)
+take_written (suc n) f (x ∷ xs) h = ap (λ ys. f 0 ∷ ys) (take_written n (λ j. f (suc j)) xs (omega arith))

@@ -9,11 +9,11 @@ use borrow.Author.Tests.{leb-true, le-leb}
 use lib.Dec.{leb}
 use lib.ListN.{length}
 use Rattle.reading.specs.Kinds.{read}
-use Rattle.frames.specs.declared.Kept.{Kept}
+use Rattle.frames.specs.declared.Lent.{Lent}
 use Rattle.frames.specs.Session.{Session}
 use Rattle.frames.specs.Replies.{reply}
 use Rattle.frames.specs.Transcript.{answer_to}
-use Rattle.frames.specs.Keeping.{log_most, tasks_of, has_room, HasRoom, SameLists, answered}
+use Rattle.frames.specs.Keeping.{log_most, tasks_of, has_room, HasRoom, answered}
 
 parts : (a b c d e : Bool) → (a && b && c && d && e) ≡ true → (a ≡ true) × (b ≡ true) × (c ≡ true) × (d ≡ true) × (e ≡ true)
 parts true true true true e q = (refl, refl, refl, refl, q)
@@ -22,7 +22,7 @@ parts true true false d e q = absurd (let z : ◌≡◌ {A = ℕ} 0 1 = cc in om
 parts true false c d e q = absurd (let z : ◌≡◌ {A = ℕ} 0 1 = cc in omega arith)
 parts false b c d e q = absurd (let z : ◌≡◌ {A = ℕ} 0 1 = cc in omega arith)
 
-module _ (k : Kept) where
+module _ (k : Lent) where
   pub roomy : has_room k ≡ true → HasRoom k
   unfolding has_room
   roomy q =
@@ -37,10 +37,12 @@ module _ (k : Kept) where
   not_roomy n = elim (has_room k) as (λ b. has_room k ≡ b → has_room k ≡ false) [ true ↦ (λ q. absurd (n (roomy q))) | false ↦ (λ q. q) ] refl
 
   -- Lists of the same lengths, and a set of no more than 64 tasks before and after.
-  pub room_stays : (k' : Kept) → HasRoom k → SameLists k k' → tasks_of k'.set ≤ 64 → has_room k' ≡ has_room k
+  pub room_stays : (k' : Lent) → tasks_of k.set ≤ 64 → tasks_of k'.set ≤ 64
+      → length k'.requirements.now ≡ length k.requirements.now → length k'.periods.now ≡ length k.periods.now
+      → length k'.counts.now ≡ length k.counts.now → length k'.log.now ≡ length k.log.now
+      → has_room k' ≡ has_room k
   unfolding has_room
-  room_stays k' room same few =
-      rw (le-leb _ 64 room.0, le-leb _ 64 few, same.4, same.5, same.6, same.7)
+  room_stays k' few few' a b c d = rw (le-leb _ 64 few, le-leb _ 64 few', a, b, c, d)
 
 module _ (b : Bool) (w : Session) (line : List ℕ) where
   pub with_room : b ≡ true → reply w (read line) ≡ answered b w line

@@ -16,7 +16,7 @@ use Rattle.run.proofs.Done.{done_few}
 use Rattle.writing.specs.AnswerLines.{slot_lines, end_line}
 use Rattle.writing.proofs.Sizes.{length_line, length_refusal, length_malformed, length_accepted, take_few, slots_small, end_small}
 use Rattle.reading.specs.Kinds.{Frame, admit, run, list, malformed, read}
-use Rattle.frames.specs.declared.InForce.{InForce}
+use Rattle.frames.specs.declared.Kept.{Kept}
 use Rattle.frames.specs.Session.{Session, no_set, in_force}
 use Rattle.frames.specs.Replies.{admit_reply, run_reply, list_text, reply}
 use Rattle.frames.specs.Transcript.{answer_to}
@@ -61,7 +61,7 @@ reply_small no_set list few = let h = length_malformed in omega arith
 reply_small (in_force m es ps ks t) list few =
     list_small (first (listing_checks es ps ks (each (length es) (λ i. 0)) m t)) es ps ks (each (length es) (λ i. 0)) t few
 
-pub answer_small : (set : Option InForce) (es ps ks line : List ℕ) → tasks_of set ≤ 64 → length (answer_to (session_with set es ps ks) line).text ≤ answer_most
+pub answer_small : (set : Option Kept) (es ps ks line : List ℕ) → tasks_of set ≤ 64 → length (answer_to (session_with set es ps ks) line).text ≤ answer_most
 unfolding answer_to
 answer_small None es ps ks line few = reply_small no_set (read line) (omega arith)
 answer_small (Some s) es ps ks line few =

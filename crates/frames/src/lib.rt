@@ -1,7 +1,7 @@
 // Frames: lines of hexadecimal, and the answers to them.
 #![tactic(auto)]
 
-ghost use Rattle.std.specs.Prelude.{IsTrue, ◌↔◌, cond, ◌≡◌, ◌*◌, ◌≤◌, ltb, length};
+ghost use Rattle.std.specs.Prelude.{IsTrue, ◌↔◌, cond, ◌&&◌, ◌≡◌, ◌*◌, ◌≤◌, leb, ltb, length};
 ghost use Rattle.std.proofs.lemmas.List.Edits.{sets};
 ghost use Rattle.rule.specs.Limits.{slots_most};
 ghost use Rattle.reading.specs.Kinds.{read, run as a_run, list as a_listing};
@@ -13,20 +13,20 @@ use reading::Asked;
 use rule::Ran;
 use writing::Slots;
 
-// The set in force: how many tasks it has, on how many units, and the time.
+// What is kept of the set in force beside the lists: how many tasks it has, on how many units, and the time.
 #[derive(Clone, Copy)]
-pub struct InForce {
+pub struct Kept {
     pub n: usize,
     pub m: u32,
     pub t: u32,
 }
 
-// What is kept between frames: the set in force, if there is one, with its lists and its counts at the front of three lent lists. The
+// The caller's lists between frames, and the set in force, if there is one, with its records and its counts at the front of three of them. The
 // log is only worked in. It has no invariant: `answer` takes lists of any length, and says that they stay those that were lent (`SameLists`).
 // There is no heap: how much of the lists is in use stands beside them.
 #[derive(Drop)]
-pub struct Kept<'a> {
-    pub set: Option<InForce>,
+pub struct Lent<'a> {
+    pub set: Option<Kept>,
     pub requirements: &'a mut [u32],
     pub periods: &'a mut [u32],
     pub counts: &'a mut [u32],
@@ -36,18 +36,33 @@ pub struct Kept<'a> {
 // Room for the longest log: 1,024 slots of 64 tasks.
 const LOG_MOST: usize = 65536;
 
-impl Kept<'_> {
+// Is there room for 64 tasks in each list, and for the longest log? It looks at the lists alone, so that they are lent as shared ones.
+#[tactic(auto, using(std::proofs::lemmas::Bool::Decides::nat_tests))]
+pub fn has_room(n: usize, requirements: &[u32], periods: &[u32], counts: &[u32], log: &[u8]) -> bool
+    ensures { result ≡ (leb n 64 && leb 64 (length requirements.now) && leb 64 (length periods.now) && leb 64 (length counts.now) && leb log_most (length log.now)) }
+{
+    n <= rule::TASKS_MOST
+        && requirements.len() >= rule::TASKS_MOST
+        && periods.len() >= rule::TASKS_MOST
+        && counts.len() >= rule::TASKS_MOST
+        && log.len() >= LOG_MOST
+}
+
+impl Lent<'_> {
     // Is there room for 64 tasks in each list, and for the longest log?
     #[tactic(auto, unfolding(crate::specs::Keeping::has_room))]
     pub fn has_room(&self) -> bool
         ensures value { result ≡ has_room self.now }
         ensures facts { IsTrue result ↔ HasRoom self.now }
     {
-        self.set.map_or(0, |set| set.n) <= rule::TASKS_MOST
-            && self.requirements.len() >= rule::TASKS_MOST
-            && self.periods.len() >= rule::TASKS_MOST
-            && self.counts.len() >= rule::TASKS_MOST
-            && self.log.len() >= LOG_MOST
+        let tasks = self.set.map_or(0, |set| set.n);
+        has_room(
+            tasks,
+            self.requirements,
+            self.periods,
+            self.counts,
+            self.log,
+        )
     }
 }
 
@@ -67,7 +82,7 @@ fn log_size(slots: u32, n: usize) -> usize
 
 // The answer to a run of the set in force. Its lists are lent as `&mut` one and all, here and below: the checker follows several slices
 // of one struct only so.
-fn ran(kept: &mut Kept<'_>, set: InForce, slots: u32, out: &mut [u8]) -> usize
+fn ran(kept: &mut Lent<'_>, set: Kept, slots: u32, out: &mut [u8]) -> usize
     requires in_force { kept.old.set ≡ Some set }
     requires room { HasRoom kept.old }
     ensures same { SameLists kept.old kept.new }
@@ -76,7 +91,7 @@ fn ran(kept: &mut Kept<'_>, set: InForce, slots: u32, out: &mut [u8]) -> usize
     ensures size { result ≡ length (reply (session_of kept.old) (a_run slots)).text }
     ensures tasks { tasks_of kept.new.set ≤ 64 }
 {
-    let InForce { n, m, t } = set;
+    let Kept { n, m, t } = set;
     let size = log_size(slots, n);
     let requirements = &mut kept.requirements[..n];
     let periods = &mut kept.periods[..n];
@@ -84,12 +99,12 @@ fn ran(kept: &mut Kept<'_>, set: InForce, slots: u32, out: &mut [u8]) -> usize
     let log = &mut kept.log[..size];
     log.fill(0);
     let Ran { done, end } = run::run(slots, requirements, periods, counts, log, m, t);
-    kept.set = Some(InForce { n, m, t: t + done });
+    kept.set = Some(Kept { n, m, t: t + done });
     writing::put_run(out, Slots { done, n, t, log }, end)
 }
 
 // The answer to a listing of the set in force, whose bytes are made in the log.
-fn listed(kept: &mut Kept<'_>, set: InForce, out: &mut [u8]) -> usize
+fn listed(kept: &mut Lent<'_>, set: Kept, out: &mut [u8]) -> usize
     requires in_force { kept.old.set ≡ Some set }
     requires room { HasRoom kept.old }
     ensures same { SameLists kept.old kept.new }
@@ -98,7 +113,7 @@ fn listed(kept: &mut Kept<'_>, set: InForce, out: &mut [u8]) -> usize
     ensures size { result ≡ length (reply (session_of kept.old) a_listing).text }
     ensures tasks { tasks_of kept.new.set ≤ 64 }
 {
-    let InForce { n, m, t } = set;
+    let Kept { n, m, t } = set;
     let requirements = &mut kept.requirements[..n];
     let periods = &mut kept.periods[..n];
     let counts = &mut kept.counts[..n];
@@ -111,7 +126,8 @@ fn listed(kept: &mut Kept<'_>, set: InForce, out: &mut [u8]) -> usize
 }
 
 // The answer to a set: it is in force from time 0 on if admission accepts it, and else the former one stays.
-fn admitted(kept: &mut Kept<'_>, line: &[u8], m: u32, n: usize, out: &mut [u8]) -> usize
+#[tactic(auto, using(crate::proofs::Sets::set_refused))]
+fn admitted(kept: &mut Lent<'_>, line: &[u8], m: u32, n: usize, out: &mut [u8]) -> usize
     requires asked { (asked_by (read line.now) ≡ Some (Asked.Admit m n)) × (n ≤ 64) }
     requires room { HasRoom kept.old }
     ensures same { SameLists kept.old kept.new }
@@ -131,7 +147,7 @@ fn admitted(kept: &mut Kept<'_>, line: &[u8], m: u32, n: usize, out: &mut [u8]) 
             requirements.copy_from_slice(&es[..n]);
             periods.copy_from_slice(&ps[..n]);
             counts.fill(0);
-            kept.set = Some(InForce { n, m, t: 0 });
+            kept.set = Some(Kept { n, m, t: 0 });
             writing::put_accepted(out, accepted)
         }
     }
@@ -139,7 +155,7 @@ fn admitted(kept: &mut Kept<'_>, line: &[u8], m: u32, n: usize, out: &mut [u8]) 
 
 // The answer to one line, without its line feed: what is kept changes, the answer stands in `out` as far as there is room, and the
 // result is how many bytes it takes. Without room for 64 tasks and the longest log nothing is done.
-pub fn answer(kept: &mut Kept<'_>, line: &[u8], out: &mut [u8]) -> usize
+pub fn answer(kept: &mut Lent<'_>, line: &[u8], out: &mut [u8]) -> usize
     ensures same { SameLists kept.old kept.new }
     ensures session { session_of kept.new ≡ (answered (has_room kept.old) (session_of kept.old) line.now).session }
     ensures text { out.new ≡ sets out.old 0 (answered (has_room kept.old) (session_of kept.old) line.now).text }

@@ -20,7 +20,7 @@ use Rattle.admission.proofs.Laws.{accepted_tells}
 use Rattle.field.specs.declared.Laid.{Laid}
 use Rattle.field.specs.LayOut.{lay_out}
 use Rattle.field.proofs.OfSet.{laid_requirements, laid_periods}
-use Rattle.field.proofs.Accepted.{accepted_units, accepted_requirements, accepted_periods}
+use Rattle.field.proofs.Accepted.{accepted_units, laid_fits, accepted_requirements, accepted_periods}
 use Rattle.standing.specs.declared.Rung.{Rung}
 use Rattle.standing.specs.Judged.{rungs_of, judged}
 use Rattle.standing.specs.Laid.{laid_checks}
@@ -63,6 +63,10 @@ module _ (es ps ks bytes : List ℕ) (m t : ℕ) where
 
       set : AcceptedSet es ps m
       set = accepted_set es ps m tells.0 tells.1
+
+      -- The laid-out lists have room for the whole field.
+      pub fits : (laid.size ≤ length laid.requirements) × (laid.size ≤ length laid.periods)
+      fits = laid_fits es ps m set a tells.2 laid out
 
       module _ (j : Result (List Rung) Refusal) (is : j ≡ judged a.units (take laid.size laid.requirements) (take laid.size laid.periods) ks t) where
         judged_set : j ≡ judged (units_in_use es ps) (laid_requirements es ps) (laid_periods es ps) ks t

@@ -73,12 +73,25 @@ lcm_all_pos [] all = omega arith
 lcm_all_pos (p ∷ ps) all =
     mul-pos (lowest_above_pos p (lcm_all ps) (all 0 (omega arith))) (lcm_all_pos ps (λ i h. all (suc i) (suc-le-suc h)))
 
+-- Where no number is 0 each is at most the least common multiple.
+pub each_le_lcm_all : (ps : List ℕ)
+    → ((i : ℕ) → i < length ps → 0 < get_or ps i 0)
+    → (i : ℕ) → i < length ps → get_or ps i 0 ≤ lcm_all ps
+each_le_lcm_all ps all i h = le_of_dvd (lcm_all_pos ps all) (each_divides_lcm_all ps i h)
+
 rest_divides_lcm_all : (ps : List ℕ) (i : ℕ) → lcm_all (drop i ps) ∣ lcm_all ps
 unfolding lcm_all
 rest_divides_lcm_all ps zero = dvd_refl (lcm_all ps)
 rest_divides_lcm_all [] (suc i) = dvd_refl 1
 rest_divides_lcm_all (p ∷ ps) (suc i) =
     dvd_trans (lcm_all (drop i ps)) (rest_divides_lcm_all ps i) (right_divides_lcm p (lcm_all ps))
+
+-- The numbers from one place on: the one there, and the rest.
+pub lcm_all_from : (ps : List ℕ) (i : ℕ) → 0 < i → i ≤ length ps
+    → lcm_all (drop (i - 1) ps) ≡ lcm (get_or ps (i - 1) 0) (lcm_all (drop i ps))
+unfolding lcm_all
+lcm_all_from ps zero pos h = absurd (omega arith)
+lcm_all_from ps (suc i) pos h = let e : suc i - 1 ≡ i = omega arith in rw e (ap lcm_all (drop-cons ps i 0 h))
 
 -- One number more from the end.
 pub lcm_all_last : (ps : List ℕ) (k p : ℕ) → k < length (reverse ps) → p ≡ get_or (reverse ps) k p

@@ -2,10 +2,10 @@
 -- multiples. A fraction whose parts are divided by it keeps its value, and is positive or below 1 where it was.
 use mathlib.Core.Path.{◌≡◌, sym, ap, ◌∙◌}
 use Prim.Native.Nat.{ℕ, zero, suc, ◌*◌, ◌/◌, ◌%◌, ◌<◌, ◌≤◌, ◌∣◌}
-use native.Mathlib.Nat.{dvd_refl, dvd-zero, dvd-mod_iff, dvd-sub, dvd-mul_right, dvd-mul_right_of_dvd, div-mul_cancel, mul-div_cancel', div-le_self, lt_of_mul-lt-mul_right, mod-eq-sub-mul-div, mod-lt, mul_assoc, mul-sub, one-mul, zero-mul}
+use native.Mathlib.Nat.{dvd_refl, dvd-zero, dvd-mod_iff, dvd-sub, dvd-mul_right, dvd-mul_right_of_dvd, pos_of_dvd_of_pos, div-mul_cancel, mul-div_cancel', div-le_self, lt_of_mul-lt-mul_right, mod-eq-sub-mul-div, mod-lt, mul_assoc, mul-sub, one-mul, zero-mul}
 use native.Mathlib.Omega.{arith}
 use Rattle.std.specs.Int.{IsGcd}
-use Rattle.std.proofs.lemmas.Nat.Gcd.{same_from_IsGcd}
+use Rattle.std.proofs.lemmas.Nat.Gcd.{IsGcd-from_mod, same_from_IsGcd}
 use Rattle.numbers.specs.Divide.{euclid, gcd}
 
 scaled_rest : (a b k d : ℕ) → d ∣ k * a → d ∣ k * b → d ∣ k * (a % b)
@@ -37,6 +37,22 @@ gcd_is_gcd a b =
 
 pub gcd_one : {a b g g' : ℕ} → IsGcd a b g → IsGcd a b g' → g ≡ g'
 gcd_one {a} {b} {g} {g'} = same_from_IsGcd a b g g'
+
+-- By 0 the first number is the greatest common divisor.
+pub gcd_zero : (a b : ℕ) → b ≡ 0 → gcd a b ≡ a
+unfolding gcd euclid
+gcd_zero a b e = rw e
+
+-- A step of Euclid's rule keeps it.
+pub gcd_step : (a b : ℕ) → gcd a b ≡ gcd b (a % b)
+gcd_step a b = gcd_one (gcd_is_gcd a b) (IsGcd-from_mod a b (gcd b (a % b)) (gcd_is_gcd b (a % b)))
+
+-- It is positive where one of the two numbers is.
+pub gcd_pos_left : (a b : ℕ) → 0 < a → 0 < gcd a b
+gcd_pos_left a b h = pos_of_dvd_of_pos (gcd_is_gcd a b).0 h
+
+pub gcd_pos_right : (a b : ℕ) → 0 < b → 0 < gcd a b
+gcd_pos_right a b h = pos_of_dvd_of_pos (gcd_is_gcd a b).1 h
 
 part_pos : (a g : ℕ) → g ∣ a → 0 < a → 0 < a / g
 part_pos a g d h = lt_of_mul-lt-mul_right g {m = 0} {n = a / g} (rw (zero-mul g, div-mul_cancel g d) h)

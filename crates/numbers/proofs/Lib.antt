@@ -1,3 +1,4 @@
 pub mod Common
 pub mod Euclid
+pub mod Limit
 pub mod Quotient

@@ -5,7 +5,7 @@ ghost use Rattle.std.specs.Prelude.{true, ◌≡◌, ◌<◌, ◌≤◌, length,
 ghost use Rattle.frames.specs.Keeping.{answer_most};
 ghost use Rattle.stream.specs.Pieces.{is_roomy};
 
-use frames::Kept;
+use frames::Lent;
 use std::io;
 use std::io::{Read, Write};
 use stream::Reader;
@@ -54,8 +54,22 @@ impl Server<'_> {
     }
 
     // The input's end: the last line is answered too, if it lacks its line feed.
+    #[tactic(auto, unfolding(stream::specs::Pieces::has_room_for, frames::specs::Keeping::has_room))]
     fn finish<O: Write>(&mut self, output: &mut O) -> io::Result<()> {
-        let size = stream::finish(&mut self.reader, self.out);
+        // What is read besides the lists is read before they are lent on.
+        let reader = &mut self.reader;
+        let set = reader.set;
+        let held = reader.held;
+        let line = &mut *reader.line;
+        let mut kept = Lent {
+            set,
+            requirements: reader.requirements,
+            periods: reader.periods,
+            counts: reader.counts,
+            log: reader.log,
+        };
+        let size = stream::finish(&mut kept, held, line, self.out);
+        reader.set = kept.set;
         output.write_all(&self.out[..size])
     }
 
@@ -90,15 +104,12 @@ fn main(rt: HostRuntime) {
     let mut line = [0u8; 519];
     let mut piece = [0u8; 65536];
     let mut out = answers();
-    let kept = Kept {
+    let reader = Reader {
         set: None,
         requirements: &mut requirements,
         periods: &mut periods,
         counts: &mut counts,
         log: &mut log,
-    };
-    let reader = Reader {
-        kept,
         line: &mut line,
         held: 0,
     };

@@ -19,7 +19,7 @@ use Rattle.rule.proofs.Sets.{AcceptedSet, accepted_set}
 use Rattle.admission.proofs.Laws.{accepted_tells}
 use Rattle.field.specs.declared.Laid.{Laid as Layout}
 use Rattle.field.specs.LayOut.{lay_out, requirements_in, periods_in}
-use Rattle.field.proofs.Accepted.{accepted_units, accepted_requirements, accepted_periods}
+use Rattle.field.proofs.Accepted.{accepted_units, laid_fits, accepted_requirements, accepted_periods}
 use Rattle.slot.proofs.Accepted.{slot_refused}
 use Rattle.run.proofs.Laid.{Laid}
 
@@ -31,6 +31,10 @@ module _ (es ps : List ℕ) (m : ℕ) (a : Accepted) (q : admission es ps m ≡ 
 
   set : AcceptedSet es ps m
   set = accepted_set es ps m tells.0 tells.1
+
+  -- The laid-out lists have room for the whole field.
+  pub fits : (laid.size ≤ length laid.requirements) × (laid.size ≤ length laid.periods)
+  fits = laid_fits es ps m set a tells.2 laid out
 
   pub laid_set : (es' ps' : List ℕ) → es' ≡ requirements_in laid → ps' ≡ periods_in laid → Laid es ps m es' ps' a.units
   laid_set es' ps' requirements periods =

@@ -1,4 +1,5 @@
 pub mod Turns
+pub mod Logs
 pub mod Laid
 pub mod Accepted
 pub mod Done

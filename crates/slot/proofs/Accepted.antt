@@ -4,7 +4,7 @@ use Rattle.std.specs.Prelude.{Err, Ok}
 use mathlib.Core.Path.{◌≡◌}
 use mathlib.Core.Bool.{true}
 use mathlib.Core.List.{List, [], ◌∷◌, ◌++◌}
-use Prim.Native.Nat.{ℕ}
+use Prim.Native.Nat.{ℕ, ◌≤◌}
 use borrow.Author.Tests.{eq-eqb}
 use lib.ListN.{length, take}
 use Rattle.rule.specs.declared.Accepted.{Accepted}
@@ -17,7 +17,7 @@ use Rattle.rule.proofs.Refusals.{or_next, first_or, given_first, admission_refus
 use Rattle.admission.proofs.Laws.{accepted_tells}
 use Rattle.field.specs.declared.Laid.{Laid}
 use Rattle.field.specs.LayOut.{lay_out}
-use Rattle.field.proofs.Accepted.{accepted_units, accepted_requirements, accepted_periods}
+use Rattle.field.proofs.Accepted.{accepted_units, laid_fits as field_fits, accepted_requirements, accepted_periods}
 use Rattle.slot.specs.Deal.{dealt}
 use Rattle.slot.proofs.OfSet.{dealt_is_slot}
 
@@ -51,6 +51,10 @@ module _ (es ps ks bytes : List ℕ) (m t : ℕ) where
 
       set : AcceptedSet es ps m
       set = accepted_set es ps m tells.0 tells.1
+
+      -- The laid-out lists have room for the whole field.
+      pub laid_fits : (laid.size ≤ length laid.requirements) × (laid.size ≤ length laid.periods)
+      laid_fits = field_fits es ps m set a tells.2 laid out
 
       pub dealt_set : dealt a.units (take laid.size laid.requirements) (take laid.size laid.periods) ks bytes t ≡ slot es ps ks bytes m t
       dealt_set =

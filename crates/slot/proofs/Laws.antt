@@ -38,7 +38,32 @@ pub engine_says : (t e p e' p' : ℕ) (o : Order) → bounded_by multiple_most e
     → o ≡ engine e p e' p' t → compare t e p e' p' ≡ o
 engine_says t e p e' p' o h h' c q = sym (q ∙ engine_compares e p e' p' t (takes_bounds e p h) (takes_bounds e' p' h') c)
 
--- ---- a count over places
+-- ---- a number that is 1 for a test that holds and 0 for one that does not
+
+module _ (b : Bool) {r : ℕ} (answers : r ≡ bit b) where
+  -- 0 says that it does not hold,
+  pub told_no : r ≡ 0 → b ≡ false
+  told_no z = go b (sym answers ∙ z)
+    where
+      go : (b : Bool) → bit b ≡ 0 → b ≡ false
+      go true e = absurd (omega arith)
+      go false e = refl
+
+  -- any other number that it holds,
+  pub told_yes : (r ≡ 0 → ⊥) → b ≡ true
+  told_yes n = go b (λ e. n (answers ∙ e))
+    where
+      go : (b : Bool) → (bit b ≡ 0 → ⊥) → b ≡ true
+      go true h = refl
+      go false h = absurd (h refl)
+
+  -- and it is no more than 1.
+  pub told_few : r ≤ 1
+  told_few = rw answers (go b)
+    where
+      go : (b : Bool) → bit b ≤ 1
+      go true = omega arith
+      go false = omega arith
 
 -- A test's answer as the code's byte.
 pub as_byte : (b : Bool) → bool_byte b ≡ bit b
@@ -48,6 +73,8 @@ as_byte false = refl
 as_bit : (b : Bool) → cond b 1 0 ≡ bit b
 as_bit true = refl
 as_bit false = refl
+
+-- ---- a count over places
 
 -- No more places pass than there are.
 pub count_few : (n : ℕ) (test : ℕ → Bool) → count n test ≤ n

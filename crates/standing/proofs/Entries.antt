@@ -89,33 +89,53 @@ module _ (units : ℕ) (es ps ks : List ℕ) (t : ℕ) where
     abbrev task_place : ℕ
     task_place = lowest (length ks) (λ i. not (fair t (task_at es ps ks i)))
 
-    same_search : lowest (length ks) (laid_unfair units es ps ks t) ≡ task_place
-    same_search = lowest_ext (length ks) (laid_unfair units es ps ks t) (λ i. not (fair t (task_at es ps ks i))) (unfair_task least)
+    module _ (place : ℕ) (searched : place ≡ task_place) where
+      same_search : lowest (length ks) (laid_unfair units es ps ks t) ≡ place
+      same_search =
+          lowest_ext (length ks) (laid_unfair units es ps ks t) (λ i. not (fair t (task_at es ps ks i))) (unfair_task least) ∙ sym searched
 
+      -- A task that is found is the lowest of all places,
+      pub place_of_task : place < length ks → place ≡ laid_unfair_place units es ps ks t
+      unfolding laid_unfair_place
+      place_of_task h =
+          let s = same_search in
+          sym (lowest_early (length ks) (laid_unfair units es ps ks t) (omega arith) ∙ s)
+
+      -- else it is place n,
+      pub place_of_last : length ks ≤ place → laid_unfair units es ps ks t (length ks) ≡ true → length ks ≡ laid_unfair_place units es ps ks t
+      unfolding laid_unfair_place
+      place_of_last h unfair =
+          let s = same_search in
+          sym (lowest_last (length ks) (laid_unfair units es ps ks t) (omega arith) unfair)
+
+      -- or there is none.
+      pub place_of_none : length ks ≤ place → laid_unfair units es ps ks t (length ks) ≡ false → suc (length ks) ≡ laid_unfair_place units es ps ks t
+      unfolding laid_unfair_place
+      place_of_none h fair =
+          let s = same_search in
+          sym (lowest_never (length ks) (laid_unfair units es ps ks t) (omega arith) fair)
+
+    -- The same of a search that answers a place or none.
     pub found_task : (i : ℕ) → Some i ≡ found (length ks) task_place → Some i ≡ found (suc (length ks)) (laid_unfair_place units es ps ks t)
-    unfolding laid_unfair_place
     found_task i q =
-        let s = same_search in
         let f = found_some (length ks) task_place i q in
-        let early = lowest_early (length ks) (laid_unfair units es ps ks t) (omega arith) in
+        let here = place_of_task task_place refl f.0 in
         found_here (suc (length ks)) (laid_unfair_place units es ps ks t) i (omega arith) (omega arith)
 
     module _ (tasks_fair : None ≡ found (length ks) task_place) where
-      late : length ks ≤ lowest (length ks) (laid_unfair units es ps ks t)
-      late = let s = same_search in let f = found_none (length ks) task_place tasks_fair in omega arith
+      late : length ks ≤ task_place
+      late = found_none (length ks) task_place tasks_fair
 
       pub found_last : laid_unfair units es ps ks t (length ks) ≡ true
           → Some (length ks) ≡ found (suc (length ks)) (laid_unfair_place units es ps ks t)
-      unfolding laid_unfair_place
       found_last here =
-          let last = lowest_last (length ks) (laid_unfair units es ps ks t) late here in
-          found_here (suc (length ks)) _ (length ks) (sym last) (omega arith)
+          let last = place_of_last task_place refl late here in
+          found_here (suc (length ks)) _ (length ks) last (omega arith)
 
       pub found_nowhere : laid_unfair units es ps ks t (length ks) ≡ false
           → None ≡ found (suc (length ks)) (laid_unfair_place units es ps ks t)
-      unfolding laid_unfair_place
       found_nowhere here =
-          let never = lowest_never (length ks) (laid_unfair units es ps ks t) late here in
+          let never = place_of_none task_place refl late here in
           found_never (suc (length ks)) _ (omega arith)
 
   -- ---- the rungs of a field, from those of its tasks

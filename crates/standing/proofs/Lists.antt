@@ -16,8 +16,8 @@ use Rattle.std.specs.Prelude.{position, sum as list_sum}
 use Rattle.std.specs.List.{range_with_len, position_or_len}
 use Rattle.std.proofs.lemmas.List.FromFn.{fill_by_all, length-range_with_len, length-map-range_with_len, get_or-map-range_with_len}
 use Rattle.std.proofs.lemmas.List.Sums.{sum_by-cons}
-use Rattle.rule.specs.Places.{at, sum, lowest, found}
-use Rattle.rule.proofs.Places.{lowest_first, lowest_passes, lowest_found, lowest_none, with_last}
+use Rattle.rule.specs.Places.{at, sum, lowest, found, each}
+use Rattle.rule.proofs.Places.{lowest_first, lowest_passes, lowest_found, lowest_none, with_last, each_ext}
 use Rattle.rule.proofs.Tests.{ltb_ext}
 
 -- ---- the lowest place of one more
@@ -94,3 +94,22 @@ listed_more n i f none xs v written here =
     rw (written, add-one)
     (set_listed n i (λ j. cond (ltb j i) (f j) none) (λ j. cond (ltb j (suc i)) (f j) none) v (rw (lt-ltb i (suc i) (omega arith)) here)
     (λ j ne. ap (λ b. cond b (f j) none) (ltb_ext j i j (suc i) (λ l. omega arith) (λ l. omega (arith, ne)))))
+
+-- ---- the same of a list of numbers that is made from its first place on
+
+-- A store changes just the place that it names.
+pub set_each : (n i : ℕ) (f g : ℕ → ℕ) (v : ℕ) → v ≡ g i → ((j : ℕ) → j ≢ i → f j ≡ g j) → set (each n f) i v ≡ each n g
+unfolding each
+set_each zero i f g v here others = refl
+set_each (suc n) zero f g v here others =
+    cc (here, each_ext n (λ j. f (suc j)) (λ j. g (suc j)) (λ j l. others (suc j) (omega arith)))
+set_each (suc n) (suc i) f g v here others =
+    cc (others 0 (omega arith), set_each n i (λ j. f (suc j)) (λ j. g (suc j)) v here (λ j ne. others (suc j) (λ q. ne (omega arith))))
+
+-- Where the first i places of a list are written, a store at i writes one more.
+pub each_more : (n i : ℕ) (f : ℕ → ℕ) (xs : List ℕ) (v : ℕ) → xs ≡ each n (λ j. cond (ltb j i) (f j) 0) → v ≡ f i
+    → set xs i v ≡ each n (λ j. cond (ltb j (i + 1)) (f j) 0)
+each_more n i f xs v written here =
+    rw (written, add-one)
+    (set_each n i (λ j. cond (ltb j i) (f j) 0) (λ j. cond (ltb j (suc i)) (f j) 0) v (rw (lt-ltb i (suc i) (omega arith)) here)
+    (λ j ne. ap (λ b. cond b (f j) 0) (ltb_ext j i j (suc i) (λ l. omega arith) (λ l. omega (arith, ne)))))

@@ -6,7 +6,7 @@ use Prim.Native.Nat.{ℕ, zero, suc, ◌-◌, ◌≤◌, ◌<◌}
 use native.Mathlib.Omega.{arith}
 use lib.ListN.{length, set, take, drop, length-drop, drop_of_length-le}
 use lib.Seq.{sets, take_all}
-use Rattle.frames.specs.declared.Kept.{Kept}
+use Rattle.frames.specs.declared.Lent.{Lent}
 use Rattle.frames.specs.Session.{Session}
 use Rattle.frames.specs.Transcript.{answer_to}
 use Rattle.frames.specs.Keeping.{session_of, has_room, HasRoom, answer_most, answered}
@@ -27,25 +27,29 @@ unfolding answered
 answered_roomy b was line q = rw q
 
 -- An answer, by its size as the code tells it, is no longer than the longest one.
-pub answer_fits : (k : Kept) (line : List ℕ) → HasRoom k → (size : ℕ) → size ≡ length (answered (has_room k) (session_of k) line).text → size ≤ answer_most
+pub answer_fits : (k : Lent) (line : List ℕ) → HasRoom k → (size : ℕ) → size ≡ length (answered (has_room k) (session_of k) line).text → size ≤ answer_most
 answer_fits k line room size is =
     let said = ap (λ r. length r.text) (answered_roomy (has_room k) (session_of k) line (is_roomy k room)) in
     let small = answer_small k.set k.requirements.now k.periods.now k.counts.now line room.0 in
     omega arith
 
-module _ (k : Kept) (line bs : List ℕ) where
+module _ (k : Lent) (line bs : List ℕ) where
   pub step_answers : (l : List ℕ) → HasRoom k → (scan line bs).ended ≡ true → l ≡ (scan line bs).line
       → ((answered (has_room k) (session_of k) l).session ≡ (step (session_of k) line bs).session)
       × ([] ≡ (step (session_of k) line bs).line)
       × ((answered (has_room k) (session_of k) l).text ≡ (step (session_of k) line bs).text)
+      × (length (step (session_of k) line bs).text ≤ answer_most)
   unfolding step_by
   step_answers l room ends is =
       let was = session_of k in
       let here : step_by was (scan line bs) ≡ record { session = (answer_to was (scan line bs).line).session; line = []; text = (answer_to was (scan line bs).line).text } = rw ends in
-      let said = answered_roomy (has_room k) was l (is_roomy k room) ∙ ap (answer_to was) is in (
+      let said = answered_roomy (has_room k) was l (is_roomy k room) ∙ ap (answer_to was) is in
+      let small = answer_small k.set k.requirements.now k.periods.now k.counts.now (scan line bs).line room.0 in
+      let size = ap (λ s. length s.text) here in (
         ap (λ r. r.session) said ∙ sym (ap (λ s. s.session) here),
         sym (ap (λ s. s.line) here),
         ap (λ r. r.text) said ∙ sym (ap (λ s. s.text) here),
+        omega arith,
       )
 
 -- ---- stored after the others
@@ -95,7 +99,7 @@ some_line was line zero some inside = absurd (omega arith)
 some_line was [] (suc n) some inside = absurd (omega arith)
 some_line was (c ∷ cs) (suc n) some inside = refl
 
-pub ended_line : (b : Bool) (k : Kept) (line : List ℕ) (held : ℕ) → b ≡ true → HasRoom k → 0 < held → held ≤ length line
+pub ended_line : (b : Bool) (k : Lent) (line : List ℕ) (held : ℕ) → b ≡ true → HasRoom k → 0 < held → held ≤ length line
     → answered (has_room k) (session_of k) (take held line) ≡ ended_by b (session_of k) (take held line)
 unfolding ended_by
 ended_line b k line held roomy room some inside =

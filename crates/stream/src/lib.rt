@@ -5,11 +5,11 @@ ghost use Rattle.std.specs.Prelude.{IsTrue, ◌↔◌, cond, ◌≡◌, ◌≤�
 ghost use Rattle.std.proofs.lemmas.List.Edits.{sets};
 ghost use Rattle.writing.specs.AnswerLines.{line_feed};
 ghost use Rattle.frames.specs.Stream.{feed as feed_of};
-ghost use Rattle.frames.specs.Keeping.{answer_most};
+ghost use Rattle.frames.specs.Keeping.{session_of, has_room, HasRoom, SameLists, answer_most};
 ghost use Rattle.stream.specs.Taking.{hold, scan, step};
-ghost use Rattle.stream.specs.Pieces.{session_at, line_at, is_roomy, HasLine, IsRoomy, SameReader, taken, ended_by};
+ghost use Rattle.stream.specs.Pieces.{session_at, line_at, held_of, has_room_for, HasRoomFor, HasLineFor, is_roomy, HasBytes, IsRoomy, SameLine, SameReader, reach, taken, ended_by};
 
-use frames::Kept;
+use frames::{Kept, Lent};
 
 const LINE_FEED: u8 = 0x0A;
 
@@ -19,12 +19,24 @@ const LINE_MOST: usize = 519;
 // No answer is longer: 1,024 lines that name 64 tasks each, and the line of a refusal.
 const ANSWER_MOST: usize = 144391;
 
+// What is kept while more input is waited for, beside the lent lists: the set in force, and how much of the line at hand is held.
+#[derive(Clone, Copy)]
+pub struct Waiting {
+    pub kept: Option<Kept>,
+    pub held: usize,
+}
+
 // What is kept while more input is waited for: the session, and the line at hand at the front of a lent list. There is no heap, so that its
 // length stands beside it; and no invariant: `feed` and `finish` take lists of any length, and say that they stay those that were lent
-// (`SameReader`).
+// (`SameReader`). The lists stand here one by one, and not in a `Lent`: of a reference in a struct within a struct the checker says nothing
+// once the loan has ended. So one who lends lists of its own knows after the call what is in them.
 #[derive(Drop)]
 pub struct Reader<'a> {
-    pub kept: Kept<'a>,
+    pub set: Option<Kept>,
+    pub requirements: &'a mut [u32],
+    pub periods: &'a mut [u32],
+    pub counts: &'a mut [u32],
+    pub log: &'a mut [u8],
     pub line: &'a mut [u8],
     pub held: usize,
 }
@@ -43,36 +55,73 @@ fn line_end(piece: &[u8]) -> Option<usize>
     piece.iter().position(|&byte| byte == LINE_FEED)
 }
 
+// Is there room for the line at hand?
+fn has_line(held: usize, line: &[u8]) -> bool
+    ensures { IsTrue result ↔ HasLineFor held line.now }
+{
+    held <= LINE_MOST && line.len() >= LINE_MOST
+}
+
+// Is there room for the line at hand, 64 tasks and the longest log?
+fn has_room_for(kept: &Lent<'_>, held: usize, line: &[u8]) -> bool
+    ensures { IsTrue result ↔ HasRoomFor kept.now held line.now }
+{
+    kept.has_room() && has_line(held, line)
+}
+
 impl Reader<'_> {
-    // Is there room for the line at hand, 64 tasks and the longest log?
     fn is_roomy(&self) -> bool
         ensures { IsTrue result ↔ IsRoomy self.now }
     {
-        self.kept.has_room() && self.held <= LINE_MOST && self.line.len() >= LINE_MOST
+        let tasks = self.set.map_or(0, |set| set.n);
+        frames::has_room(
+            tasks,
+            self.requirements,
+            self.periods,
+            self.counts,
+            self.log,
+        ) && has_line(self.held, self.line)
     }
 
+    // What is kept beside the lists, for a caller that copies it, or lends the lists anew at the next call.
+    pub fn waiting(&self) -> Waiting
+        ensures { result ≡ record { kept = self.now.set; held = self.now.held } }
+    {
+        Waiting {
+            kept: self.set,
+            held: self.held,
+        }
+    }
+}
+
+// The line at hand, at the front of a list. It stands beside a `Lent`, and neither holds the other, for the same reason.
+#[derive(Drop)]
+struct Line<'a> {
+    bytes: &'a mut [u8],
+    held: usize,
+}
+
+impl Line<'_> {
     // More of the line at hand, as far as it is not too long already.
     fn hold(&mut self, bytes: &[u8])
-        requires { HasLine self.old }
-        ensures same { SameReader self.old self.new }
-        ensures session { self.new.kept ≡ self.old.kept }
-        ensures line { line_at self.new ≡ hold (line_at self.old) bytes.now }
-        ensures room { HasLine self.new }
+        requires { HasBytes self.old }
+        ensures same { SameLine self.old self.new }
+        ensures line { held_of self.new ≡ hold (held_of self.old) bytes.now }
+        ensures room { HasBytes self.new }
     {
         let n = bytes.len().min(LINE_MOST - self.held);
-        let place = &mut self.line[self.held..self.held + n];
+        let place = &mut self.bytes[self.held..self.held + n];
         place.copy_from_slice(&bytes[..n]);
         self.held += n;
     }
 
     // Takes the bytes of a piece up to its first line feed, and says how many these are with it. Without one it takes them all.
     fn take_line(&mut self, piece: &[u8]) -> Option<usize>
-        requires { HasLine self.old }
-        ensures same { SameReader self.old self.new }
-        ensures session { self.new.kept ≡ self.old.kept }
-        ensures line { line_at self.new ≡ (scan (line_at self.old) piece.now).line }
-        ensures end { result ≡ cond (scan (line_at self.old) piece.now).ended (Some (scan (line_at self.old) piece.now).used) None }
-        ensures room { HasLine self.new }
+        requires { HasBytes self.old }
+        ensures same { SameLine self.old self.new }
+        ensures line { held_of self.new ≡ (scan (held_of self.old) piece.now).line }
+        ensures end { result ≡ cond (scan (held_of self.old) piece.now).ended (Some (scan (held_of self.old) piece.now).used) None }
+        ensures room { HasBytes self.new }
     {
         match line_end(piece) {
             Some(end) => {
@@ -85,30 +134,53 @@ impl Reader<'_> {
             }
         }
     }
+}
 
-    // One line of a piece, or what is there of it, and its answer if it ends there.
-    fn next(&mut self, piece: &[u8], out: &mut [u8]) -> Fed
-        requires { IsRoomy self.old }
-        ensures same { SameReader self.old self.new }
-        ensures session { session_at self.new ≡ (step (session_at self.old) (line_at self.old) piece.now).session }
-        ensures line { line_at self.new ≡ (step (session_at self.old) (line_at self.old) piece.now).line }
-        ensures text { out.new ≡ sets out.old 0 (step (session_at self.old) (line_at self.old) piece.now).text }
-        ensures size { result.size ≡ length (step (session_at self.old) (line_at self.old) piece.now).text }
-        ensures at { result.at ≡ (scan (line_at self.old) piece.now).used }
-        ensures room { IsRoomy self.new }
-        ensures small { result.size ≤ answer_most }
-    {
-        let Some(at) = self.take_line(piece) else {
-            return Fed {
-                at: piece.len(),
-                size: 0,
-            };
+// One line of a piece, or what is there of it, and its answer if it ends there.
+fn next(kept: &mut Lent<'_>, line: &mut Line<'_>, piece: &[u8], out: &mut [u8]) -> Fed
+    requires { HasRoom kept.old × HasBytes line.old }
+    ensures same { SameLists kept.old kept.new × SameLine line.old line.new }
+    ensures session { session_of kept.new ≡ (step (session_of kept.old) (held_of line.old) piece.now).session }
+    ensures line { held_of line.new ≡ (step (session_of kept.old) (held_of line.old) piece.now).line }
+    ensures text { out.new ≡ sets out.old 0 (step (session_of kept.old) (held_of line.old) piece.now).text }
+    ensures size { result.size ≡ length (step (session_of kept.old) (held_of line.old) piece.now).text }
+    ensures at { result.at ≡ (scan (held_of line.old) piece.now).used }
+    ensures room { HasRoom kept.new × HasBytes line.new }
+    ensures small { result.size ≤ answer_most }
+{
+    let Some(at) = line.take_line(piece) else {
+        return Fed {
+            at: piece.len(),
+            size: 0,
         };
-        let line = &mut self.line[..self.held];
-        let size = frames::answer(&mut self.kept, line, out);
-        self.held = 0;
-        Fed { at, size }
+    };
+    let bytes = &mut line.bytes[..line.held];
+    let size = frames::answer(kept, bytes, out);
+    line.held = 0;
+    Fed { at, size }
+}
+
+// Every line of a piece as far as the answers have room.
+fn feed_lines(kept: &mut Lent<'_>, line: &mut Line<'_>, piece: &[u8], out: &mut [u8]) -> Fed
+    requires { HasRoom kept.old × HasBytes line.old }
+    ensures same { SameLists kept.old kept.new × SameLine line.old line.new }
+    ensures at { result.at ≡ reach (length out.old) (session_of kept.old) (held_of line.old) piece.now }
+    ensures session { session_of kept.new ≡ (feed_of (session_of kept.old) (held_of line.old) (take result.at piece.now)).reader.session }
+    ensures line { held_of line.new ≡ (feed_of (session_of kept.old) (held_of line.old) (take result.at piece.now)).reader.line }
+    ensures text { out.new ≡ sets out.old 0 (feed_of (session_of kept.old) (held_of line.old) (take result.at piece.now)).text }
+    ensures size { result.size ≡ length (feed_of (session_of kept.old) (held_of line.old) (take result.at piece.now)).text }
+    ensures room { HasRoom kept.new × HasBytes line.new }
+    ensures within { (result.at ≤ length piece.now) × (result.size ≤ length out.old) }
+{
+    let mut at = 0;
+    let mut size = 0;
+    // It stays a `while`: how far a turn goes is for its line to say.
+    while at < piece.len() && out.len() - size >= ANSWER_MOST {
+        let fed = next(kept, line, &piece[at..], &mut out[size..]);
+        at += fed.at;
+        size += fed.size;
     }
+    Fed { at, size }
 }
 
 // The answers to a piece of input, cut anywhere: the lines that end in it are answered, and what is left of the last one is kept. The
@@ -124,33 +196,40 @@ pub fn feed(reader: &mut Reader<'_>, piece: &[u8], out: &mut [u8]) -> Fed
     ensures roomy { is_roomy reader.new ≡ is_roomy reader.old }
     ensures within { (result.at ≤ length piece.now) × (result.size ≤ length out.old) }
 {
-    let mut at = 0;
-    let mut size = 0;
     if !reader.is_roomy() {
-        return Fed { at, size };
+        return Fed { at: 0, size: 0 };
     }
-    // It stays a `while`: how far a turn goes is for its line to say.
-    while at < piece.len() && out.len() - size >= ANSWER_MOST {
-        let fed = reader.next(&piece[at..], &mut out[size..]);
-        at += fed.at;
-        size += fed.size;
-    }
-    Fed { at, size }
+    // The lists are lent on once a piece, and not once a line.
+    let set = reader.set;
+    let mut line = Line {
+        held: reader.held,
+        bytes: reader.line,
+    };
+    let mut kept = Lent {
+        set,
+        requirements: reader.requirements,
+        periods: reader.periods,
+        counts: reader.counts,
+        log: reader.log,
+    };
+    let fed = feed_lines(&mut kept, &mut line, piece, out);
+    reader.set = kept.set;
+    reader.held = line.held;
+    fed
 }
 
-// The end of the input: the answer to a last line that lacks its line feed, if there is one. The result is how many bytes it takes.
-pub fn finish(reader: &mut Reader<'_>, out: &mut [u8]) -> usize
-    ensures same { SameReader reader.old reader.new }
-    ensures line { (reader.new.held ≡ reader.old.held) × (reader.new.line.now ≡ reader.old.line.now) }
-    ensures session { session_at reader.new ≡ (ended_by (is_roomy reader.old) (session_at reader.old) (line_at reader.old)).session }
-    ensures text { out.new ≡ sets out.old 0 (ended_by (is_roomy reader.old) (session_at reader.old) (line_at reader.old)).text }
-    ensures size { result ≡ length (ended_by (is_roomy reader.old) (session_at reader.old) (line_at reader.old)).text }
+// The end of the input: the answer to a last line that lacks its line feed, if there is one. The result is how many bytes it takes. Of the
+// list of the line at hand the bytes that are held are read, so that it is lent as a shared one.
+pub fn finish(kept: &mut Lent<'_>, held: usize, line: &[u8], out: &mut [u8]) -> usize
+    ensures same { SameLists kept.old kept.new }
+    ensures session { session_of kept.new ≡ (ended_by (has_room_for kept.old held line.now) (session_of kept.old) (take held line.now)).session }
+    ensures text { out.new ≡ sets out.old 0 (ended_by (has_room_for kept.old held line.now) (session_of kept.old) (take held line.now)).text }
+    ensures size { result ≡ length (ended_by (has_room_for kept.old held line.now) (session_of kept.old) (take held line.now)).text }
     ensures small { result ≤ answer_most }
-    ensures roomy { is_roomy reader.new ≡ is_roomy reader.old }
+    ensures room { has_room kept.new ≡ has_room kept.old }
 {
-    if reader.held == 0 || !reader.is_roomy() {
+    if held == 0 || !has_room_for(kept, held, line) {
         return 0;
     }
-    let line = &mut reader.line[..reader.held];
-    frames::answer(&mut reader.kept, line, out)
+    frames::answer(kept, &line[..held], out)
 }

@@ -9,18 +9,6 @@ use Rattle.frames.proofs.Keeping.{cleared}
 use Rattle.frames.proofs.Sets.{set_refused, set_text, set_session}
 use Rattle.frames.proofs.admitted.Goals as goal
 
-pub returns-in-Err : goal.returns-in-Err
-returns-in-Err c =
-    let a = c.args in
-    let both = set_refused a.line.now a.m a.n c.requires.asked.0 c.column-es.result c.column-ps.result c.column-es.ensures c.column-ps.ensures (session_of a.kept.now) _ (sym c.admit.ensures ∙ c.in-Err.is) in
-    record {
-      same = search rules;
-      session = both.0;
-      text = c.put_refused.ensures.out ∙ ap (sets _ 0) both.1;
-      size = c.put_refused.ensures.place ∙ ap length both.1;
-      tasks = search rules;
-    }
-
 pub returns-in-Ok : goal.returns-in-Ok
 returns-in-Ok c =
     let a = c.args in

@@ -40,7 +40,7 @@ returns-in-Admit-default c =
       session = r.ensures.session ∙ ap (λ x. x.session) all;
       text = r.ensures.text ∙ ap (λ x. sets c.args.out.now 0 x.text) all;
       size = r.ensures.size ∙ ap (λ x. length x.text) all;
-      room = room_stays k r.new.kept (search rules) r.ensures.same r.ensures.tasks;
+      room = room_stays k r.new.kept (search rules) r.ensures.tasks r.ensures.same.4 r.ensures.same.5 r.ensures.same.6 r.ensures.same.7;
     }
 
 pub returns-in-Run-Some : goal.returns-in-Run-Some
@@ -55,7 +55,7 @@ returns-in-Run-Some c =
       session = r.ensures.session ∙ ap (λ x. x.session) all;
       text = r.ensures.text ∙ ap (λ x. sets c.args.out.now 0 x.text) all;
       size = r.ensures.size ∙ ap (λ x. length x.text) all;
-      room = room_stays k r.new.kept (search rules) r.ensures.same r.ensures.tasks;
+      room = room_stays k r.new.kept (search rules) r.ensures.tasks r.ensures.same.4 r.ensures.same.5 r.ensures.same.6 r.ensures.same.7;
     }
 
 pub returns-in-List-Some : goal.returns-in-List-Some
@@ -70,7 +70,7 @@ returns-in-List-Some c =
       session = r.ensures.session ∙ ap (λ x. x.session) all;
       text = r.ensures.text ∙ ap (λ x. sets c.args.out.now 0 x.text) all;
       size = r.ensures.size ∙ ap (λ x. length x.text) all;
-      room = room_stays k r.new.kept (search rules) r.ensures.same r.ensures.tasks;
+      room = room_stays k r.new.kept (search rules) r.ensures.tasks r.ensures.same.4 r.ensures.same.5 r.ensures.same.6 r.ensures.same.7;
     }
 
 pub returns-in_default-None : goal.returns-in_default-None

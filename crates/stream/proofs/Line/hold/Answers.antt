@@ -5,11 +5,11 @@ use lib.ListN.{take}
 use mathlib.Core.List.{◌++◌}
 use Rattle.std.proofs.lemmas.Slice.{take-put_mid}
 use Rattle.stream.proofs.Taking.{held_part}
-use Rattle.stream.proofs.Reader.hold.Goals as goal
+use Rattle.stream.proofs.Line.hold.Goals as goal
 
 pub returns-clause-line : goal.returns-clause-line
 returns-clause-line c =
-    let r = c.args.self.now in
-    take-put_mid r.held _ r.line.now _ _ (search rules) (search rules)
-    ∙ ap (λ l. take r.held r.line.now ++ l) c.copy_from_slice.ensures.after
-    ∙ held_part r.line.now c.args.bytes.now r.held c.min-n.result c.requires.0 (search rules) c.min-n.ensures
+    let l = c.args.self.now in
+    take-put_mid l.held _ l.bytes.now _ _ (search rules) (search rules)
+    ∙ ap (λ bs. take l.held l.bytes.now ++ bs) c.copy_from_slice.ensures.after
+    ∙ held_part l.bytes.now c.args.bytes.now l.held c.min-n.result c.requires.0 (search rules) c.min-n.ensures
