@@ -22,12 +22,16 @@ parts true true false d e q = absurd (let z : ◌≡◌ {A = ℕ} 0 1 = cc in om
 parts true false c d e q = absurd (let z : ◌≡◌ {A = ℕ} 0 1 = cc in omega arith)
 parts false b c d e q = absurd (let z : ◌≡◌ {A = ℕ} 0 1 = cc in omega arith)
 
+-- Of any number of tasks and any lengths, as `has_room` of lists that are lent one by one answers.
+pub room_told : (n a b c d : ℕ) → (leb n 64 && leb 64 a && leb 64 b && leb 64 c && leb log_most d) ≡ true → (n ≤ 64) × (64 ≤ a) × (64 ≤ b) × (64 ≤ c) × (log_most ≤ d)
+room_told n a b c d q =
+    let p = parts (leb n 64) (leb 64 a) (leb 64 b) (leb 64 c) (leb log_most d) q in
+    (leb-true n 64 p.0, leb-true 64 a p.1, leb-true 64 b p.2, leb-true 64 c p.3, leb-true log_most d p.4)
+
 module _ (k : Lent) where
   pub roomy : has_room k ≡ true → HasRoom k
   unfolding has_room
-  roomy q =
-      let p = parts (leb (tasks_of k.set) 64) (leb 64 (length k.requirements.now)) (leb 64 (length k.periods.now)) (leb 64 (length k.counts.now)) (leb log_most (length k.log.now)) q in
-      (leb-true _ 64 p.0, leb-true 64 _ p.1, leb-true 64 _ p.2, leb-true 64 _ p.3, leb-true log_most _ p.4)
+  roomy q = room_told (tasks_of k.set) (length k.requirements.now) (length k.periods.now) (length k.counts.now) (length k.log.now) q
 
   pub is_roomy : HasRoom k → has_room k ≡ true
   unfolding has_room

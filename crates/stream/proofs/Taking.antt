@@ -113,6 +113,12 @@ hold_is (b ∷ bs) line h = go (leb (length line) digits_most) refl (λ l short.
         let none : line_most - length line ≡ 0 = omega (arith, full, h) in
         later line h ∙ rw none refl
 
+-- Of no bytes there is nothing to hold.
+pub held_none : (line bs : List ℕ) → length bs ≡ 0 → line ≡ hold line bs
+unfolding hold
+held_none line [] none = refl
+held_none line (b ∷ bs) none = absurd (omega arith)
+
 -- as the code says it, of a line at the front of a list
 pub held_part : (list bs : List ℕ) (held n : ℕ) → held ≤ line_most → held ≤ length list → n ≡ min (length bs) (line_most - held)
     → take held list ++ take n bs ≡ hold (take held list) bs

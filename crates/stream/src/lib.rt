@@ -109,6 +109,10 @@ impl Line<'_> {
         ensures line { held_of self.new ≡ hold (held_of self.old) bytes.now }
         ensures room { HasBytes self.new }
     {
+        // Of an empty line there is nothing to copy, and the copy would be most of its cost.
+        if bytes.is_empty() {
+            return;
+        }
         let n = bytes.len().min(LINE_MOST - self.held);
         let place = &mut self.bytes[self.held..self.held + n];
         place.copy_from_slice(&bytes[..n]);

@@ -6,7 +6,7 @@ use lib.Seq.{sets, length-take-le, take_at}
 use Rattle.rule.specs.Places.{each}
 use Rattle.frames.specs.Keeping.{session_of}
 use Rattle.frames.proofs.Keeping.{cleared}
-use Rattle.frames.proofs.Sets.{set_refused, set_text, set_session}
+use Rattle.frames.proofs.Sets.{set_text, set_session}
 use Rattle.frames.proofs.admitted.Goals as goal
 
 pub returns-in-Ok : goal.returns-in-Ok

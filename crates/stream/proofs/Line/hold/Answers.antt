@@ -4,8 +4,11 @@ use borrow.Author.Rules.{rules}
 use lib.ListN.{take}
 use mathlib.Core.List.{◌++◌}
 use Rattle.std.proofs.lemmas.Slice.{take-put_mid}
-use Rattle.stream.proofs.Taking.{held_part}
+use Rattle.stream.proofs.Taking.{held_none, held_part}
 use Rattle.stream.proofs.Line.hold.Goals as goal
+
+pub returns-then-is_empty-clause-line : goal.returns-then-is_empty-clause-line
+returns-then-is_empty-clause-line c = held_none _ c.args.bytes.now (search rules)
 
 pub returns-clause-line : goal.returns-clause-line
 returns-clause-line c =
